@@ -1,0 +1,17 @@
+//! The outside of the kernel: where bytes come from and where they go.
+//!
+//! Each trait has a count of faults, which never falls: a call fails only where the count rose
+//! in that call. What an object holds is a second meaning, which the forms in memory tell and
+//! the thin adapters of the system do not.
+#![tactic(auto)]
+
+mod memory;
+mod outside;
+mod system;
+
+pub use memory::{MemSink, MemSource};
+pub use outside::{Failed, Sink, Source};
+pub use system::{StdinSource, StdoutSink};
+
+#[cfg(test)]
+mod tests;

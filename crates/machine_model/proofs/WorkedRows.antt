@@ -1,0 +1,36 @@
+-- The definitions compute the worked runs, from the bytes of a script to the bytes of its answers.
+use Rattle.std.proofs.Common.{◌≡◌, [], refl}
+use Rattle.std.specs.Prelude.{codes}
+use Rattle.std.specs.Fmt.{digits}
+use Rattle.hex.proofs.OnLiterals.{hex_on_literals}
+use Rattle.machine_model.specs.Step.{view_after, answer_to, wakes}
+use Rattle.machine_model.specs.Words.{words, number_below, bytes_of_word}
+use Rattle.machine_model.specs.Reading.{call_of, events_of_line, lines}
+use Rattle.machine_model.specs.Answers.{hex_word, wake_text, answer_line}
+use Rattle.machine_model.specs.Script.{script_out, text_end, bad_boot_line}
+
+empty_text : script_out [] [] ≡ record { bytes = []; status = 0 }
+unfolding lines text_end bad_boot_line
+empty_text = refl
+
+first_run : script_out []
+    (codes "0 open /dev/tty7 rw\nin tty7 68\n0 read 0 100\n0 write 0 6869\nin tty7 79\n0 revoke /dev/tty7\n0 read 0 100\n0 write 0 7a\ntake tty7 100\n0 close 0\n")
+    ≡ record {
+      bytes = codes "0 ok 0\ntty7 noted\n0 bytes 68\n0 ok 2\ntty7 noted\n0 ok 0\n0 bytes -\n0 err EIO dead\ntty7 out -\n0 ok 0\n";
+      status = 0;
+    }
+unfolding digits hex_on_literals view_after answer_to wakes words number_below bytes_of_word call_of events_of_line lines hex_word wake_text answer_line text_end bad_boot_line
+first_run = refl
+
+raw_line_refusals : script_out []
+    (codes "0 read 3 5\n0 open /dev/tty7 r\n0 write 0 61\n0 read 0 513\n0 read 0 5\n1 close 0\n0 fork")
+    ≡ record {
+      bytes = codes "0 err EBADF bad-fd\n0 ok 0\n0 err EBADF fd-mode\n0 err EINVAL size\n0 err EAGAIN not-ready\n1 gone\nline 7\n";
+      status = 2;
+    }
+unfolding digits hex_on_literals view_after answer_to wakes words number_below bytes_of_word call_of events_of_line lines hex_word wake_text answer_line text_end bad_boot_line
+raw_line_refusals = refl
+
+bad_boot : script_out (codes "recheck on\n") (codes "0 close 0\n") ≡ record { bytes = codes "boot line 1\n"; status = 2 }
+unfolding digits bad_boot_line
+bad_boot = refl

@@ -1,0 +1,59 @@
+-- The answers to events, as lines.
+use Rattle.std.specs.Prelude.{ℕ, ◌==◌, List, [], ◌++◌, length, flat_map, if◌then◌else◌, codes}
+use Rattle.std.specs.Fmt.{decimal}
+use Rattle.hex.specs.Hex.{encode_lower}
+use Rattle.call_words.specs.Rules.{errno_of}
+use Rattle.call_words.specs.declared.rules.Rule.{Rule}
+use Rattle.call_words.specs.declared.rules.Rule.TheVariants.{Size, BadFd, FdMode, Dead, NotReady, FdRoom}
+use Rattle.call_words.specs.declared.rules.Errno.{Errno}
+use Rattle.call_words.specs.declared.rules.Errno.TheVariants.{EINVAL, EBADF, EIO, EAGAIN, EMFILE}
+use Rattle.call_words.specs.declared.events.Event.{Event}
+use Rattle.call_words.specs.declared.events.Event.TheVariants as event
+use Rattle.call_words.specs.declared.events.Reply.{Reply}
+use Rattle.call_words.specs.declared.events.Reply.TheVariants.{Num, Bytes, Denied, Gone}
+use Rattle.call_words.specs.declared.events.Decision.{Decision}
+use Rattle.call_words.specs.declared.events.Decision.TheVariants.{Answer, Taken, Noted}
+use Rattle.machine_model.specs.Step.{WakeList}
+
+-- pairs of hex digits in lower case, and a dash for no bytes
+unfoldable pub hex_word : List ℕ → List ℕ
+hex_word bs = if length bs == 0 then codes "-" else encode_lower bs
+
+abbrev pub errno_word : Errno → List ℕ
+errno_word EINVAL = codes "EINVAL"
+errno_word EBADF = codes "EBADF"
+errno_word EIO = codes "EIO"
+errno_word EAGAIN = codes "EAGAIN"
+errno_word EMFILE = codes "EMFILE"
+
+abbrev pub rule_word : Rule → List ℕ
+rule_word Size = codes "size"
+rule_word BadFd = codes "bad-fd"
+rule_word FdMode = codes "fd-mode"
+rule_word Dead = codes "dead"
+rule_word NotReady = codes "not-ready"
+rule_word FdRoom = codes "fd-room"
+
+abbrev pub reply_text : Reply → List ℕ
+reply_text (Num n) = codes "ok " ++ decimal n
+reply_text (Bytes bs) = codes "bytes " ++ hex_word bs
+reply_text (Denied rule) = codes "err " ++ errno_word (errno_of rule) ++ codes " " ++ rule_word rule
+reply_text Gone = codes "gone"
+
+abbrev pub decision_text : Decision → List ℕ
+decision_text (Answer reply) = reply_text reply
+decision_text (Taken bs) = codes "out " ++ hex_word bs
+decision_text Noted = codes "noted"
+
+-- who is answered: a slot or a line
+abbrev pub asker_text : Event → List ℕ
+asker_text (event.Call slot call) = decimal slot
+asker_text (event.Byte line b) = codes "tty" ++ decimal line
+asker_text (event.Take line max) = codes "tty" ++ decimal line
+
+-- the slots that can go on, where there are any
+unfoldable pub wake_text : List ℕ → List ℕ
+wake_text slots = if length slots == 0 then [] else codes " wake" ++ flat_map (λ slot. codes " " ++ decimal slot) slots
+
+unfoldable pub answer_line : Event → Decision → WakeList → List ℕ
+answer_line e d w = asker_text e ++ codes " " ++ decision_text d ++ wake_text w.slots ++ codes "\n"

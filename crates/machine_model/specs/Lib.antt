@@ -1,0 +1,15 @@
+pub mod State
+pub mod View
+pub mod Effects
+pub mod Rows
+pub mod FileCalls
+pub mod LineCalls
+pub mod Step
+pub mod Run
+pub mod Stands
+pub mod Words
+pub mod Reading
+pub mod Answers
+pub mod Script
+pub mod Seen
+pub mod Laws

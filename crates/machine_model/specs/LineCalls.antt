@@ -1,0 +1,29 @@
+-- The rows of revoke(2) and of what happens at a line.
+use Rattle.std.specs.Prelude.{ℕ, not, [], ◌∷◌, length, take, nat_le}
+use Rattle.call_words.specs.declared.limits.TheConstants.{INPUT_PLACES}
+use Rattle.machine_model.specs.View.{View}
+use Rattle.machine_model.specs.Effects.{killed, emptied, came, sent}
+use Rattle.machine_model.specs.Rows.{Row, line, early, number, taken, noted}
+use Rattle.machine_model.specs.FileCalls.{any_live}
+
+-- every open file of the line becomes dead, and both queues are emptied
+abbrev pub revoke_row : Row
+revoke_row = record { lines = []; effects = killed ∷ emptied ∷ []; answer = number 0 }
+
+-- a byte is dropped where the line has no live file, and where all places of its input are taken
+abbrev pub byte_row : View → ℕ → Row
+byte_row v b = record {
+  lines = line (not (any_live v.descriptors)) (early noted)
+      ∷ line (nat_le INPUT_PLACES (length v.line.input)) (early noted)
+      ∷ [];
+  effects = came b ∷ [];
+  answer = noted;
+}
+
+-- nothing is taken where no file is live
+abbrev pub take_row : View → ℕ → Row
+take_row v max = record {
+  lines = line (not (any_live v.descriptors)) (early (taken [])) ∷ [];
+  effects = sent max ∷ [];
+  answer = taken (take max v.line.output);
+}

@@ -1,0 +1,59 @@
+-- What a script writes, and the status with which it ends.
+use Rattle.std.specs.Prelude.{ℕ, ◌+◌, List, [], ◌∷◌, ◌++◌, Option, Some, None, nat_lt, ◌==◌, if◌then◌else◌, length, take, codes}
+use Rattle.std.specs.Fmt.{decimal}
+use Rattle.call_words.specs.declared.limits.TheConstants.{TRAIL_EVENTS}
+use Rattle.call_words.specs.declared.events.Event.{Event}
+use Rattle.machine_model.specs.State.{State, boot}
+use Rattle.machine_model.specs.View.{view}
+use Rattle.machine_model.specs.Step.{step, wakes}
+use Rattle.machine_model.specs.Reading.{Asked, reads}
+use Rattle.machine_model.specs.Answers.{answer_line}
+
+-- the answer lines of events, of which the first is at position p
+abbrev pub answers_from : State → ℕ → List Event → List ℕ
+answers_from s p [] = []
+answers_from s p (e ∷ es) = answer_line e (step s p e).1 (wakes (view (step s p e).0)) ++ answers_from (step s p e).0 (p + 1) es
+
+abbrev pub answers : List Event → List ℕ
+answers es = answers_from boot 1 es
+
+-- what is written, and the status
+pub record Output : Type 0 where
+  pub bytes : List ℕ
+  pub status : ℕ
+
+-- the last line and the status of a text's end: of a text that was read to its end, or of one
+-- with a bad line
+unfoldable pub text_end : Option ℕ → Output
+text_end None = record { bytes = []; status = 0 }
+text_end (Some n) = record { bytes = codes "line " ++ decimal n ++ codes "\n"; status = 2 }
+
+-- the same where one event more is asked than a run has
+abbrev pub full_end : Output
+full_end = record { bytes = codes "full\n"; status = 6 }
+
+-- the end of a run that has room for so many events
+abbrev pub run_end : ℕ → Asked → Output
+run_end room asked = if nat_lt room (length asked.events) then full_end else text_end asked.bad
+
+-- a run of what a text asks: the answers of at most 262,144 events, and the end
+abbrev pub run_out : Asked → Output
+run_out asked = record {
+  bytes = answers (take TRAIL_EVENTS asked.events) ++ (run_end TRAIL_EVENTS asked).bytes;
+  status = (run_end TRAIL_EVENTS asked).status;
+}
+
+-- the number of the first bad line of a boot text: no line is in its grammar yet
+unfoldable pub bad_boot_line : List ℕ → Option ℕ
+bad_boot_line text = if length text == 0 then None else Some 1
+
+abbrev pub boot_end : ℕ → Output
+boot_end n = record { bytes = codes "boot line " ++ decimal n ++ codes "\n"; status = 2 }
+
+abbrev pub after_boot : Option ℕ → List ℕ → Output
+after_boot None text = run_out (reads text)
+after_boot (Some n) text = boot_end n
+
+-- the boot text is read before the script
+abbrev pub script_out : List ℕ → List ℕ → Output
+script_out boot_text text = after_boot (bad_boot_line boot_text) text

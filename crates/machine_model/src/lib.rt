@@ -1,0 +1,18 @@
+//! The sequential machine, as definitions that the contracts of the kernel and of the top
+//! calls cite.
+//!
+//! `specs/` has four layers: the state (open files named by the position of their event, bytes
+//! with the position of the event that brought them), the view (what calls can see of a state),
+//! the rows (for each event its ordered lines, its effects and its answer) and the laws of a
+//! run. `proofs/` shows that the view steps as the state does, that the laws hold of every run,
+//! and that the definitions compute the worked runs.
+#![tactic(auto)]
+
+/// An open file of a line, as calls see it.
+#[derive(Clone, Copy, Debug, PartialEq, Eq)]
+pub struct OpenFile {
+    pub readable: bool,
+    pub writable: bool,
+    /// A revoke of the line came after the file was opened (revoke(2)).
+    pub dead: bool,
+}

@@ -1,0 +1,11 @@
+pub mod Cases
+pub mod Decimals
+pub mod Joins
+pub mod Bytes
+pub mod FlagSets
+pub mod Each
+pub mod Parts
+pub mod Splitting
+pub mod Words
+pub mod Grammar
+pub mod Printed

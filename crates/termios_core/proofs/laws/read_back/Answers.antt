@@ -1,0 +1,5 @@
+use Rattle.termios_core.proofs.Grammar.{termios_of-termios_text}
+use Rattle.termios_core.proofs.laws.read_back.Goals as goal
+
+pub returns : goal.returns
+returns c = termios_of-termios_text

@@ -1,0 +1,4 @@
+pub mod Flags
+pub mod Termios
+pub mod Text
+pub mod Reading

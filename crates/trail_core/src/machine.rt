@@ -1,0 +1,78 @@
+//! What a machine is.
+ghost use Rattle.std.specs.Prelude.{◌≡◌, ◌+◌, ◌≤◌, ◌↔◌, List, ◌∷◌, [], ◌++◌, length, IsTrue, IsOk, IfOk, OnOk, OnErr};
+ghost use Rattle.trail_core.specs.Machine.{IsAt};
+
+/// Memory ran out. It changes nothing.
+pub use std::alloc::AllocError as NoMemory;
+
+/// How many events a trail has at most.
+pub const MOST_EVENTS: u32 = 0x8000_0000;
+
+/// A machine that takes one event at a time.
+///
+/// Its answers are functions of its root, which is plain data that no step changes, of the events
+/// so far and of the next event. A machine stands for a list of events where it is what these
+/// events, in order, make of a fresh machine of its root.
+pub trait Machine: Drop {
+    type Event: Drop;
+
+    type Decision: Drop;
+
+    /// Whom an event wakes.
+    type Wakes: Drop;
+
+    /// What a machine is made of. Only contracts speak of it.
+    type Root;
+
+    /// What this machine is made of.
+    ghost root: { Self → Self.Root };
+    /// For which lists of events the machine stands.
+    ghost stands: { Self → List Self.Event → Type 0 };
+    /// Which events may be asked.
+    ghost may_ask: { Self.Event → Type 0 };
+    /// Which events never want memory.
+    ghost needs_no_memory: { Self.Event → Type 0 };
+    /// The decision of the next event after a list.
+    ghost decision: { Self.Root → List Self.Event → Self.Event → Self.Decision };
+    /// Whom that event wakes.
+    ghost woken: { Self.Root → List Self.Event → Self.Event → Self.Wakes };
+    /// Whether that event sleeps and changes nothing.
+    ghost is_idle: { Self.Root → List Self.Event → Self.Event → Type 0 };
+    /// The wakes of nobody.
+    ghost nobody: { Self.Wakes };
+
+    /// Takes the next event: decides it, and writes to `wakes` whom it wakes. `pos` is the place of
+    /// the event in the trail, counted from 1. An `Err` changes nothing.
+    fn step(
+        &mut self,
+        pos: u32,
+        event: &Self::Event,
+        wakes: &mut Self::Wakes,
+    ) -> Result<Self::Decision, NoMemory>
+        requires asked { may_ask event.now }
+        requires place { IsAt (stands self.old) pos }
+        requires most { pos ≤ MOST_EVENTS }
+
+        // Of each list for which the machine stands and of which this is the next place:
+        ensures decided { (events : List Self.Event) → stands self.old events → pos ≡ length events + 1 →
+            IfOk result (λ d. d ≡ decision (root self.old) events event.now) }
+        ensures woken { (events : List Self.Event) → stands self.old events → pos ≡ length events + 1 →
+            OnOk result (wakes.new ≡ woken (root self.old) events event.now) }
+        ensures stands { (events : List Self.Event) → stands self.old events → pos ≡ length events + 1 →
+            OnOk result (stands self.new (events ++ event.now ∷ [])) }
+
+        ensures root { root self.new ≡ root self.old }
+        ensures memory { needs_no_memory event.now → IsOk result }
+        ensures unchanged { OnErr result (self.new ≡ self.old) }
+        ensures wakes_unchanged { OnErr result (wakes.new ≡ wakes.old) };
+
+    /// The wakes of nobody, for `step` to write to.
+    fn no_wakes() -> Self::Wakes
+        ensures { result ≡ nobody };
+
+    /// Whether the event, as the next one, sleeps and changes nothing.
+    fn still_waits(&self, event: &Self::Event) -> bool
+        requires { may_ask event.now }
+        ensures { (events : List Self.Event) → stands self.now events →
+            (IsTrue result ↔ is_idle (root self.now) events event.now) };
+}

@@ -1,0 +1,121 @@
+//! A machine and the events that it took.
+ghost use Rattle.std.specs.Prelude.{◌≡◌, ◌≤◌, ◌↔◌, [], ◌∷◌, ◌++◌, length, IsTrue, IfOk, IfErr, OnOk, OnErr, Err};
+
+use crate::machine::{MOST_EVENTS, Machine, NoMemory};
+use std::alloc::Global;
+use std::marker::Model;
+
+/// Why an event was not taken. It is handed back.
+#[derive(Debug, Drop)]
+pub enum Refused<E> {
+    /// As many events as are recorded at most were taken.
+    Full(E),
+    /// Memory ran out.
+    NoMemory(E),
+}
+
+/// A machine with the trail of its events, of which there are at most as many as it was made for.
+///
+/// Contracts see of it a `Trail`: the machine's root, that number, and the events.
+#[derive(Drop)]
+pub struct Recorded<M: Machine> {
+    machine: M,
+    most: u32,
+    events: Vec<M::Event>,
+}
+
+impl<M: Machine> Model for Recorded<M> {
+    ghost use Rattle.std.specs.Prelude.{vec_capacity};
+    ghost use Rattle.trail_core.specs.Trail.{Trail, IsKept};
+
+    ghost Value = { Trail M.Root M.Event };
+
+    ghost view = { λ r. record { root = M.root r.machine; most = r.most; events = r.events.items } };
+
+    ghost invariant = { λ r. IsKept (M.stands r.machine) r.most (vec_capacity r.events) r.events.items };
+}
+
+impl<M: Machine> Recorded<M> {
+    ghost use Rattle.trail_core.specs.Trail.{event_of};
+
+    /// A fresh machine with an empty trail, and room for `most` events.
+    pub fn new(alloc: Global, machine: M, most: u32) -> Result<Self, NoMemory>
+        requires fresh { M.stands machine [] }
+        requires most { most ≤ MOST_EVENTS }
+        ensures { IfOk result (λ r. r ≡ record { root = M.root machine; most = most; events = [] }) }
+    {
+        let events = Vec::with_capacity(alloc, most as usize)?;
+        Ok(Recorded {
+            machine,
+            most,
+            events,
+        })
+    }
+
+    /// How many events were taken.
+    pub fn len(&self) -> u32
+        ensures len { result ≡ length self.now.events }
+        ensures most { result ≤ self.now.most }
+    {
+        self.events.len() as u32
+    }
+
+    /// Whether no event was taken.
+    pub fn is_empty(&self) -> bool
+        ensures { IsTrue result ↔ (self.now.events ≡ []) }
+    {
+        self.events.is_empty()
+    }
+
+    /// Whether the trail is at its limit.
+    pub fn is_full(&self) -> bool
+        ensures { IsTrue result ↔ (length self.now.events ≡ self.now.most) }
+    {
+        self.len() == self.most
+    }
+
+    /// The events that were taken, in order.
+    pub fn events(&self) -> &[M::Event]
+        ensures { result.now ≡ self.now.events }
+    {
+        &self.events
+    }
+
+    /// Whether the event, as the next one, would sleep and change nothing.
+    pub fn still_waits(&self, event: &M::Event) -> bool
+        requires { M.may_ask event.now }
+        ensures { IsTrue result ↔ M.is_idle self.now.root self.now.events event.now }
+    {
+        self.machine.still_waits(event)
+    }
+
+    /// Takes the event and records it. A refusal changes nothing and hands the event back: `Full`
+    /// comes exactly at the limit, and `NoMemory` never for an event that needs no memory.
+    pub fn apply(
+        &mut self,
+        event: M::Event,
+        wakes: &mut M::Wakes,
+    ) -> Result<M::Decision, Refused<M::Event>>
+        requires { M.may_ask event }
+        ensures decision { IfOk result (λ d. d ≡ M.decision self.old.root self.old.events event) }
+        ensures wakes { OnOk result (wakes.new ≡ M.woken self.old.root self.old.events event) }
+        ensures recorded { OnOk result (self.new ≡ record self.old { events = self.old.events ++ event ∷ [] }) }
+
+        ensures full { (result ≡ Err (Refused.Full event)) ↔ (length self.old.events ≡ self.old.most) }
+        ensures memory { M.needs_no_memory event → IfErr result (λ refused. refused ≡ Refused.Full event) }
+        ensures returned { IfErr result (λ refused. event_of refused ≡ event) }
+        ensures err { OnErr result ((self.new ≡ self.old) × (wakes.new ≡ wakes.old)) }
+    {
+        if self.is_full() {
+            return Err(Refused::Full(event));
+        }
+        let pos = self.len() + 1;
+        match self.machine.step(pos, &event, wakes) {
+            Ok(decision) => {
+                self.events.push_reserved(event);
+                Ok(decision)
+            }
+            Err(NoMemory) => Err(Refused::NoMemory(event)),
+        }
+    }
+}

@@ -1,0 +1,78 @@
+-- One event of a run.
+use Rattle.std.proofs.Common.{◌≡◌, ℕ, zero, suc, ◌+◌, ◌-◌, ◌<◌, List, ◌∷◌, ◌++◌, Option, Ok, Err, Result, length, drop, get_or, drop-cons, add-one, refl, sym, ap, ◌∙◌, arith}
+use Rattle.std.specs.Prelude.{codes}
+use Rattle.edge_io.specs.Outside.{Appended}
+use Rattle.call_words.specs.declared.events.Event.{Event}
+use Rattle.call_words.specs.declared.events.Event.TheVariants as event
+use Rattle.call_words.specs.declared.events.Decision.{Decision}
+use Rattle.machine_model.specs.View.{View}
+use Rattle.machine_model.specs.Step.{view_after, answer_to, WakeList, wakes}
+use Rattle.machine_model.specs.Reading.{Asked, byte_events}
+use Rattle.machine_model.specs.Answers.{answer_line}
+use Rattle.machine_model.specs.Script.{Output, full_end}
+use Rattle.machine_model.specs.Seen.{out_seen, joined}
+use Rattle.machine_model.proofs.SeenRuns.{out_seen-full, out_seen-event}
+use Rattle.tty_host.specs.declared.run.Stop.{Stop}
+use Rattle.tty_host.specs.declared.run.Stop.TheVariants.{Full, Failed}
+use Rattle.tty_host.specs.Told.{Began, Keeps, Goes}
+use Rattle.tty_host.proofs.Told.{keeps-more, goes-more, keeps-joined, keeps-last, began-joined, goes-at, goes-ok, goes-full, goes-failed}
+
+abbrev pub asked : List Event → Option ℕ → Asked
+asked es bad = record { events = es; bad = bad }
+
+full : (v : View) (room : ℕ) (e : Event) (es : List Event) (bad : Option ℕ) → room ≡ 0 → out_seen v room (asked (e ∷ es) bad) ≡ full_end
+full v room e es bad none = rw none (out_seen-full v e es bad)
+
+-- where there is no room, the last line was written
+pub event-full : (v : View) (room : ℕ) (e : Event) (es : List Event) (bad : Option ℕ) (a b : Option (List ℕ)) (y : Output) → room ≡ 0 → Appended a b (codes "full\n") → Goes (Err Full) a (out_seen v room (asked (e ∷ es) bad)) b y
+event-full v room e es bad a b y none h = goes-at (Err Full) a b _ full_end y (full v room e es bad none) (goes-full a b full_end y (keeps-last a b full_end h))
+
+pub event-full-failed : (v : View) (room : ℕ) (e : Event) (es : List Event) (bad : Option ℕ) (a b : Option (List ℕ)) (y : Output) → room ≡ 0 → Began a (codes "full\n") b → Goes (Err Failed) a (out_seen v room (asked (e ∷ es) bad)) b y
+event-full-failed v room e es bad a b y none h = goes-at (Err Failed) a b _ full_end y (full v room e es bad none) (goes-failed a b full_end y h)
+
+-- what the kernel made of an event, and the line of its answer
+pub record Answered (v v' : View) (e : Event) (line : List ℕ) : Type 0 where
+  pub after : v' ≡ view_after v e
+  pub printed : line ≡ answer_line e (answer_to v e) (wakes (view_after v e))
+
+pub answered : (v v' : View) (e : Event) (d : Decision) (w : WakeList) (line : List ℕ) → v' ≡ view_after v e → d ≡ answer_to v e → w ≡ wakes v' → line ≡ answer_line e d w → Answered v v' e line
+answered v v' e d w line after answer woken printed = record {
+  after = after;
+  printed = printed ∙ ap (λ d. answer_line e d w) answer ∙ ap (λ w. answer_line e (answer_to v e) w) (woken ∙ ap wakes after);
+}
+
+next : (v v' : View) (room : ℕ) (e : Event) (es : List Event) (bad : Option ℕ) (line : List ℕ) → 0 < room → Answered v v' e line → out_seen v room (asked (e ∷ es) bad) ≡ joined line (out_seen v' (room - 1) (asked es bad))
+next v v' zero e es bad line some h = absurd (omega arith)
+next v v' (suc room) e es bad line some h =
+    let left : suc room - 1 ≡ room = omega arith in
+    out_seen-event v room e es bad ∙ ap (λ l. joined l (out_seen (view_after v e) room (asked es bad))) (sym h.printed)
+    ∙ ap (λ u. joined line (out_seen u room (asked es bad))) (sym h.after) ∙ ap (λ n. joined line (out_seen v' n (asked es bad))) (sym left)
+
+-- where there is room, the answer was written, and the other events are still to come
+pub event-next : (v v' : View) (room : ℕ) (e : Event) (es : List Event) (bad : Option ℕ) (a b : Option (List ℕ)) (line : List ℕ) → 0 < room → Answered v v' e line → Appended a b line → Goes (Ok tt) a (out_seen v room (asked (e ∷ es) bad)) b (out_seen v' (room - 1) (asked es bad))
+event-next v v' room e es bad a b line some h told =
+    let more = out_seen v' (room - 1) (asked es bad) in
+    goes-at (Ok tt) a b _ (joined line more) more (next v v' room e es bad line some h) (goes-ok a b (joined line more) more (keeps-joined a b line more told))
+
+pub event-next-failed : (v v' : View) (room : ℕ) (e : Event) (es : List Event) (bad : Option ℕ) (a b : Option (List ℕ)) (y : Output) (line : List ℕ) → 0 < room → Answered v v' e line → Began a line b → Goes (Err Failed) a (out_seen v room (asked (e ∷ es) bad)) b y
+event-next-failed v v' room e es bad a b y line some h began =
+    let more = out_seen v' (room - 1) (asked es bad) in
+    goes-at (Err Failed) a b _ (joined line more) y (next v v' room e es bad line some h) (goes-failed a b (joined line more) y (began-joined a b line more.bytes began))
+
+-- the bytes from i on are the one at i and those after it
+bytes-cons : (bytes : List ℕ) (es : List Event) (i : ℕ) → i < length bytes → byte_events (drop i bytes) ++ es ≡ event.Byte 7 (get_or bytes i 0) ∷ (byte_events (drop (i + 1) bytes) ++ es)
+bytes-cons bytes es i h = rw (drop-cons bytes i 0 h, add-one i) refl
+
+pub keeps-byte : (a b c : Option (List ℕ)) (x z : Output) (v : View) (room : ℕ) (bytes : List ℕ) (es : List Event) (bad : Option ℕ) (i : ℕ) → i < length bytes
+    → Keeps a x b (out_seen v room (asked (byte_events (drop i bytes) ++ es) bad))
+    → Keeps b (out_seen v room (asked (event.Byte 7 (get_or bytes i 0) ∷ (byte_events (drop (i + 1) bytes) ++ es)) bad)) c z → Keeps a x c z
+keeps-byte a b c x z v room bytes es bad i h before call = keeps-more a b c x _ z (rw (bytes-cons bytes es i h) at before) call
+
+pub goes-byte : (r : Result (Unit {0}) Stop) (a b c : Option (List ℕ)) (x z : Output) (v : View) (room : ℕ) (bytes : List ℕ) (es : List Event) (bad : Option ℕ) (i : ℕ) → i < length bytes
+    → Keeps a x b (out_seen v room (asked (byte_events (drop i bytes) ++ es) bad))
+    → Goes r b (out_seen v room (asked (event.Byte 7 (get_or bytes i 0) ∷ (byte_events (drop (i + 1) bytes) ++ es)) bad)) c z → Goes r a x c z
+goes-byte r a b c x z v room bytes es bad i h before call = goes-more r a b c x _ z (rw (bytes-cons bytes es i h) at before) call
+
+-- the text from i on is the byte at i and what follows it
+pub text-cons : (bytes text : List ℕ) (i : ℕ) → i < length bytes → drop i bytes ++ text ≡ get_or bytes i 0 ∷ (drop (i + 1) bytes ++ text)
+text-cons bytes text i h = rw (drop-cons bytes i 0 h, add-one i) refl

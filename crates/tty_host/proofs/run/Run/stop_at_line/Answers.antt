@@ -1,0 +1,15 @@
+use Rattle.std.proofs.Common.{Some}
+use Rattle.machine_model.specs.Script.{text_end}
+use Rattle.tty_host.proofs.Told.{keeps-last, goes-bad, goes-failed}
+use Rattle.tty_host.proofs.run.Run.stop_at_line.Goals as goal
+
+pub returns-in-Ok-clause-goes : goal.returns-in-Ok-clause-goes
+unfolding text_end
+returns-in-Ok-clause-goes g c = λ more.
+    let told = c.in-Ok.ensures.ok in
+    goes-bad _ _ _ more (keeps-last _ _ (text_end (Some c.args.self.now.number)) (rw (c.as_slice.ensures.value, c.bad_line.ensures) at told))
+
+pub returns-in-Err-clause-goes : goal.returns-in-Err-clause-goes
+returns-in-Err-clause-goes g c = λ more.
+    let began = c.in-Err.ensures.began in
+    goes-failed _ _ (text_end (Some c.args.self.now.number)) more (rw (c.as_slice.ensures.value, c.bad_line.ensures) at began)

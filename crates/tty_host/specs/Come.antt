@@ -1,0 +1,23 @@
+-- What a run still writes.
+use Rattle.std.specs.Prelude.{ℕ, ◌+◌, ◌-◌, ◌*◌, List, ◌++◌, Option, length}
+use Rattle.call_words.specs.declared.events.Event.{Event}
+use Rattle.machine_model.specs.Reading.{lines, reads_from}
+use Rattle.machine_model.specs.Script.{Output}
+use Rattle.machine_model.specs.Seen.{out_seen}
+use Rattle.tty_host.specs.declared.run.Run.{Run}
+
+-- where these events are asked, and then a bad line comes or none
+abbrev pub come : Run → List Event → Option ℕ → Output
+come run events bad = out_seen run.kernel run.room (record { events = events; bad = bad })
+
+-- where these lines come, of which the first has the run's number
+abbrev pub lines_come : Run → List (List ℕ) → Output
+lines_come run ls = out_seen run.kernel run.room (reads_from run.number ls)
+
+-- where this text follows the bytes of the line so far
+abbrev pub to_come : Run → List ℕ → Output
+to_come run text = lines_come run (lines (run.line.items ++ text))
+
+-- how many bytes a run can take at most
+abbrev pub budget : Run → ℕ
+budget run = run.room * 4097 + (4096 - length run.line.items)

@@ -1,0 +1,56 @@
+-- What the top calls promise.
+use Rattle.std.specs.Prelude.{◌≡◌, ℕ, ◌≤◌, ◌⊎◌, List, [], ◌∷◌, length, Some, None, if◌then◌else◌, codes}
+use Rattle.std.specs.Str.{bytes_eq}
+use Rattle.call_words.specs.declared.limits.TheConstants.{TRAIL_EVENTS}
+use Rattle.edge_io.specs.Outside.{Appended}
+use Rattle.machine_model.specs.Reading.{reads}
+use Rattle.machine_model.specs.Script.{bad_boot_line, script_out}
+use Rattle.machine_model.specs.Laws.{ObeysLaws}
+use Rattle.tty_host.specs.Uses.{SourceUse, SinkUse, SourceFailed, SinkFailed}
+use Rattle.tty_host.specs.Told.{Began}
+use Rattle.tty_host.specs.Ends.{IsScriptStatus, Writes}
+use Rattle.tty_host.specs.declared.choice.Choice.{Choice}
+use Rattle.tty_host.specs.declared.choice.Choice.TheVariants as choice
+use Rattle.tty_host.specs.declared.status.Status.{Status}
+use Rattle.tty_host.specs.declared.status.Status.TheVariants.{Done, Usage, Input, ReadFault, WriteFault, Memory, Full, NoWorker}
+
+-- the boot text and the script have no bad line, and the script asks no more events than a run has
+pub record IsValid (boot_text text : List ℕ) : Type 0 where
+  pub boot : bad_boot_line boot_text ≡ None
+  pub script : (reads text).bad ≡ None
+  pub fits : length (reads text).events ≤ TRAIL_EVENTS
+
+-- The call ran the script of a source over the boot text of another, and wrote its answers.
+pub record RanScript (status : Status) (boot src : SourceUse) (out : SinkUse) : Type 0 where
+  -- what was written is the machine's output, with its status, or after a fault the front of it
+  pub output : (boot_text text : List ℕ) → boot.left ≡ Some boot_text → src.left ≡ Some text → Writes status (script_out boot_text text) out.told out.after
+  -- status 0 says that the text was read to its end
+  pub all_read : (text : List ℕ) → src.left ≡ Some text → status ≡ Done → src.rest ≡ Some []
+  -- valid texts give status 0 where nothing failed
+  pub complete : (boot_text text : List ℕ) → boot.left ≡ Some boot_text → src.left ≡ Some text → IsValid boot_text text → ¬ SourceFailed boot → ¬ SourceFailed src → ¬ SinkFailed out → status ≡ Done
+  -- statuses 3 and 4 come only where a count of faults rose in the call
+  pub read_fault : status ≡ ReadFault → SourceFailed boot ⊎ SourceFailed src
+  pub write_fault : status ≡ WriteFault → SinkFailed out
+  pub others : IsScriptStatus status
+  -- in the run of the script each refusal names the first rule that denies, and no byte of a line
+  -- moves through a file that was opened before the line's last revoke
+  pub lawful : (text : List ℕ) → src.left ≡ Some text → ObeysLaws (reads text).events
+
+abbrev pub usage_line : List ℕ
+usage_line = codes "usage: revtty script [BOOT] | session [BOOT] | load N START | serve DIR BOOT\n"
+
+-- The usage line was written, or after a fault the front of it.
+abbrev pub WroteUsage : Status → SinkUse → Type 0
+WroteUsage Done out = ⊥
+WroteUsage Usage out = Appended out.told out.after usage_line
+WroteUsage Input out = ⊥
+WroteUsage ReadFault out = ⊥
+WroteUsage WriteFault out = SinkFailed out × Began out.told usage_line out.after
+WroteUsage Memory out = ⊥
+WroteUsage Full out = ⊥
+WroteUsage NoWorker out = ⊥
+
+-- the command that words choose: `script` alone is built
+abbrev pub choice_of : List (List ℕ) → Choice
+choice_of (w ∷ []) = if bytes_eq w (codes "script") then choice.Script None else choice.Usage
+choice_of _ = choice.Usage

@@ -1,0 +1,17 @@
+//! The top calls: the commands of `revtty`, over sources and sinks of any kind.
+//!
+//! A script is read in bounded pieces, a line at a time, and each event's answer is written
+//! before the next byte is looked at, so a run needs the same memory for a text of any length.
+#![tactic(auto)]
+
+mod choice;
+mod print;
+mod read;
+mod run;
+mod status;
+mod top;
+mod words;
+
+pub use choice::{Choice, choose};
+pub use status::Status;
+pub use top::{plain_top, script_top};

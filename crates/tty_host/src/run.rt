@@ -1,0 +1,263 @@
+//! A run of a script: from the bytes of its text to the bytes of its answers.
+ghost use Rattle.std.specs.Prelude.{◌≡◌, ℕ, ◌+◌, ◌-◌, ◌*◌, ◌<◌, ◌≤◌, List, [], ◌∷◌, ◌++◌, length, take, drop, Option, Some, None, Ok, Err, IfOk, OnOk, OnErr, IsTrue};
+ghost use Rattle.arrayvec.specs.ArrayVec.{array_vec_len};
+ghost use Rattle.edge_io.specs.Outside.{Rose, Appended};
+ghost use Rattle.call_words.specs.declared.events.Event.{Event};
+ghost use Rattle.machine_model.specs.State.{boot};
+ghost use Rattle.machine_model.specs.View.{view};
+ghost use Rattle.machine_model.specs.Step.{MayBeAsked};
+ghost use Rattle.machine_model.specs.Reading.{byte_events};
+ghost use Rattle.machine_model.specs.Script.{Output, text_end};
+ghost use Rattle.tty_host.specs.Told.{Began};
+ghost use Rattle.tty_host.specs.Ends.{IsScriptStatus, stop_status};
+ghost use Rattle.tty_host.specs.OneLine.{is_one_line};
+ghost use Rattle.tty_host.specs.Events.{events_in, MayAllBeAsked};
+
+use crate::print::{AnswerLine, bad_line, print_answer};
+use crate::read::{Events, read_event_line};
+use crate::status::Status;
+use arrayvec::ArrayVec;
+use call_words::{Event, PIECE_BYTES, RAW_LINE, SCRIPT_LINE_BYTES, TRAIL_EVENTS, Wakes};
+use edge_io::{Failed, Sink, Source};
+use kern_core::Kernel;
+
+/// Why a run ends before its text does.
+#[derive(Clone, Copy, Debug, PartialEq, Eq)]
+pub enum Stop {
+    BadLine,
+    Full,
+    Failed,
+}
+
+impl Stop {
+    /// The status with which a command then ends.
+    fn status(self) -> Status
+        ensures { result ≡ stop_status self }
+    {
+        match self {
+            Stop::BadLine => Status::Input,
+            Stop::Full => Status::Full,
+            Stop::Failed => Status::WriteFault,
+        }
+    }
+}
+
+/// A run: the kernel, for how many events more there is room, the number of the line that is
+/// being read, and what has come of it.
+#[derive(Drop)]
+pub struct Run {
+    pub kernel: Kernel,
+    pub room: u32,
+    pub number: u32,
+    pub line: ArrayVec<u8, SCRIPT_LINE_BYTES>,
+    ghost within: { number + room ≤ 262145 },
+    ghost one_line: { IsTrue (is_one_line line.items) },
+}
+
+/// Writes all of the bytes.
+pub fn write_all<K: Sink>(out: &mut K, bytes: &[u8]) -> Result<(), Failed>
+    ensures ok { OnOk result (Appended (K.written out.old) (K.written out.new) bytes.now) }
+    ensures began { OnErr result (Began (K.written out.old) bytes.now (K.written out.new)) }
+    ensures failed { OnErr result (Rose (K.faults out.old) (K.faults out.new)) }
+    ensures grows { K.faults out.old ≤ K.faults out.new }
+{
+    let mut at = 0;
+    while at < bytes.len() {
+        let (_, rest) = bytes.split_at(at);
+        at += out.write(rest)?;
+    }
+    Ok(())
+}
+
+impl Run {
+    ghost use Rattle.tty_host.specs.Come.{come, lines_come, to_come, budget};
+    ghost use Rattle.tty_host.specs.Told.{Goes, ended};
+    ghost use Rattle.tty_host.specs.Ends.{Writes};
+
+    /// A run from boot, with no byte of its text read.
+    pub fn new() -> Self
+        ensures kernel { result.kernel ≡ view boot }
+        ensures room { result.room ≡ 262144 }
+        ensures number { result.number ≡ 1 }
+        ensures line { result.line.items ≡ [] }
+    {
+        Run {
+            kernel: Kernel::boot(),
+            room: TRAIL_EVENTS,
+            number: 1,
+            line: ArrayVec::new(),
+        }
+    }
+
+    /// Runs one event and writes its answer.
+    fn run_event<K: Sink>(&mut self, event: &Event, out: &mut K) -> Result<(), Stop>
+        requires { MayBeAsked event.now }
+        ensures goes { (es : List Event) (bad : Option ℕ) → Goes result
+            (K.written out.old) (come self.old (event.now ∷ es) bad)
+            (K.written out.new) (come self.new es bad) }
+        ensures room { OnOk result (self.new.room + 1 ≡ self.old.room) }
+        ensures number { self.new.number ≡ self.old.number }
+        ensures line { self.new.line ≡ self.old.line }
+        ensures failed { result ≡ Err Stop.Failed → Rose (K.faults out.old) (K.faults out.new) }
+        ensures grows { K.faults out.old ≤ K.faults out.new }
+    {
+        if self.room == 0 {
+            return match write_all(out, b"full\n") {
+                Ok(()) => Err(Stop::Full),
+                Err(Failed) => Err(Stop::Failed),
+            };
+        }
+        let mut wakes = Wakes::none();
+        let decision = self.kernel.step(event, &mut wakes);
+        self.room -= 1;
+        let mut line = AnswerLine::new();
+        print_answer(event, &decision, &wakes, &mut line);
+        match write_all(out, line.as_slice()) {
+            Ok(()) => Ok(()),
+            Err(Failed) => Err(Stop::Failed),
+        }
+    }
+
+    /// Runs the arrival of each of the bytes.
+    fn run_bytes<K: Sink>(&mut self, bytes: &[u8], out: &mut K) -> Result<(), Stop>
+        ensures goes { (es : List Event) (bad : Option ℕ) → Goes result
+            (K.written out.old) (come self.old (byte_events bytes.now ++ es) bad)
+            (K.written out.new) (come self.new es bad) }
+        ensures room { OnOk result (self.new.room + length bytes.now ≡ self.old.room) }
+        ensures number { self.new.number ≡ self.old.number }
+        ensures failed { result ≡ Err Stop.Failed → Rose (K.faults out.old) (K.faults out.new) }
+        ensures grows { K.faults out.old ≤ K.faults out.new }
+    {
+        for byte in bytes {
+            let event = Event::Byte {
+                line: RAW_LINE,
+                byte: *byte,
+            };
+            self.run_event(&event, out)?;
+        }
+        Ok(())
+    }
+
+    /// Runs the events of a line.
+    fn run_events<K: Sink>(&mut self, events: &Events, out: &mut K) -> Result<(), Stop>
+        requires { MayAllBeAsked events.now }
+        ensures goes { (es : List Event) (bad : Option ℕ) → Goes result
+            (K.written out.old) (come self.old (events_in events.now ++ es) bad)
+            (K.written out.new) (come self.new es bad) }
+        ensures room { OnOk result (self.new.room < self.old.room) }
+        ensures number { self.new.number ≡ self.old.number }
+        ensures failed { result ≡ Err Stop.Failed → Rose (K.faults out.old) (K.faults out.new) }
+        ensures grows { K.faults out.old ≤ K.faults out.new }
+    {
+        match events {
+            Events::One(event) => self.run_event(event, out),
+            Events::Bytes(bytes) => self.run_bytes(bytes.as_slice(), out),
+        }
+    }
+
+    /// Ends the run at a bad line.
+    fn stop_at_line<K: Sink>(&self, out: &mut K) -> Stop
+        ensures goes { (more : Output) → Goes (Err result)
+            (K.written out.old) (text_end (Some self.now.number)) (K.written out.new) more }
+        ensures failed { result ≡ Stop.Failed → Rose (K.faults out.old) (K.faults out.new) }
+        ensures grows { K.faults out.old ≤ K.faults out.new }
+    {
+        match write_all(out, bad_line(self.number).as_slice()) {
+            Ok(()) => Stop::BadLine,
+            Err(Failed) => Stop::Failed,
+        }
+    }
+
+    /// Runs the line that has come to its end.
+    fn end_line<K: Sink>(&mut self, out: &mut K) -> Result<(), Stop>
+        ensures goes { (ls : List (List ℕ)) → Goes result
+            (K.written out.old) (lines_come self.old (self.old.line.items ∷ ls))
+            (K.written out.new) (lines_come self.new ls) }
+        ensures line { OnOk result (self.new.line.items ≡ []) }
+        ensures room { OnOk result (self.new.room < self.old.room) }
+        ensures failed { result ≡ Err Stop.Failed → Rose (K.faults out.old) (K.faults out.new) }
+        ensures grows { K.faults out.old ≤ K.faults out.new }
+    {
+        let Some(events) = read_event_line(self.line.as_slice()) else {
+            return Err(self.stop_at_line(out));
+        };
+        self.run_events(&events, out)?;
+        self.line.clear();
+        self.number += 1;
+        Ok(())
+    }
+
+    /// Takes the next byte of the text.
+    fn feed<K: Sink>(&mut self, byte: u8, out: &mut K) -> Result<(), Stop>
+        ensures goes { (text : List ℕ) → Goes result
+            (K.written out.old) (to_come self.old (byte ∷ text))
+            (K.written out.new) (to_come self.new text) }
+        ensures nearer { OnOk result (budget self.new < budget self.old) }
+        ensures failed { result ≡ Err Stop.Failed → Rose (K.faults out.old) (K.faults out.new) }
+        ensures grows { K.faults out.old ≤ K.faults out.new }
+    {
+        if byte == b'\n' {
+            return self.end_line(out);
+        }
+        if self.line.is_full() {
+            return Err(self.stop_at_line(out));
+        }
+        self.line.push(byte);
+        Ok(())
+    }
+
+    /// Takes the next bytes of the text.
+    fn feed_all<K: Sink>(&mut self, bytes: &[u8], out: &mut K) -> Result<(), Stop>
+        ensures goes { (text : List ℕ) → Goes result
+            (K.written out.old) (to_come self.old (bytes.now ++ text))
+            (K.written out.new) (to_come self.new text) }
+        ensures nearer { OnOk result (budget self.new + length bytes.now ≤ budget self.old) }
+        ensures failed { result ≡ Err Stop.Failed → Rose (K.faults out.old) (K.faults out.new) }
+        ensures grows { K.faults out.old ≤ K.faults out.new }
+    {
+        for byte in bytes {
+            self.feed(*byte, out)?;
+        }
+        Ok(())
+    }
+
+    /// Ends the text. Its last line may lack the newline.
+    fn finish<K: Sink>(&mut self, out: &mut K) -> Result<(), Stop>
+        ensures goes { Goes result
+            (K.written out.old) (to_come self.old []) (K.written out.new) (ended 0) }
+        ensures failed { result ≡ Err Stop.Failed → Rose (K.faults out.old) (K.faults out.new) }
+        ensures grows { K.faults out.old ≤ K.faults out.new }
+    {
+        if self.line.is_empty() {
+            return Ok(());
+        }
+        self.end_line(out)
+    }
+
+    /// Takes all of a source.
+    pub fn run_source<S: Source, K: Sink>(&mut self, src: &mut S, out: &mut K) -> Status
+        ensures writes { (text : List ℕ) → S.left src.old ≡ Some text →
+            Writes result (to_come self.old text) (K.written out.old) (K.written out.new) }
+        ensures all { (text : List ℕ) → S.left src.old ≡ Some text → result ≡ Status.Done → S.left src.new ≡ Some [] }
+        ensures read_fault { result ≡ Status.ReadFault → Rose (S.faults src.old) (S.faults src.new) }
+        ensures write_fault { result ≡ Status.WriteFault → Rose (K.faults out.old) (K.faults out.new) }
+        ensures others { IsScriptStatus result }
+    {
+        let mut buffer = [0; PIECE_BYTES];
+        loop {
+            let Ok(count) = src.read(&mut buffer) else {
+                return Status::ReadFault;
+            };
+            if count == 0 {
+                break;
+            }
+            if let Err(stop) = self.feed_all(&buffer[..count], out) {
+                return stop.status();
+            }
+        }
+        match self.finish(out) {
+            Ok(()) => Status::Done,
+            Err(stop) => stop.status(),
+        }
+    }
+}

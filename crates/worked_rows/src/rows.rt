@@ -1,0 +1,164 @@
+use edge_io::{MemSink, MemSource};
+use std::alloc::{AllocError, Global};
+use std::test::Fail;
+use tty_host::{Status, script_top};
+
+/// What a script writes over an empty boot text, and its status.
+pub fn run(alloc: Global, text: &[u8]) -> Result<(Vec<u8>, Status), AllocError> {
+    let mut boot = MemSource::new(Vec::new(alloc), Vec::new(alloc));
+    let mut src = MemSource::new(Vec::from_slice(alloc, text)?, Vec::new(alloc));
+    let mut out = MemSink::new(alloc, 4_000_000, Vec::new(alloc))?;
+    let status = script_top(&mut boot, &mut src, &mut out);
+    Ok((Vec::from_slice(alloc, out.written())?, status))
+}
+
+const EMPTY_TEXT: (&str, &str) = ("", "");
+
+const FIRST_RUN: (&str, &str) = (
+    "0 open /dev/tty7 rw\nin tty7 68\n0 read 0 100\n0 write 0 6869\nin tty7 79\n0 revoke /dev/tty7\n0 read 0 100\n0 write 0 7a\ntake tty7 100\n0 close 0\n",
+    "0 ok 0\ntty7 noted\n0 bytes 68\n0 ok 2\ntty7 noted\n0 ok 0\n0 bytes -\n0 err EIO dead\ntty7 out -\n0 ok 0\n",
+);
+
+/// After a revoke a new descriptor reads no byte that came before it was opened.
+const NO_EARLIER_BYTE: (&str, &str) = (
+    "0 open /dev/tty7 rw\nin tty7 41\n0 revoke /dev/tty7\nin tty7 42\n0 open /dev/tty7 rw\nin tty7 43\n0 read 1 9\n",
+    "0 ok 0\ntty7 noted\n0 ok 0\ntty7 noted\n0 ok 1\ntty7 noted\n0 bytes 43\n",
+);
+
+/// The last close empties both queues; the last line lacks its newline.
+const LAST_CLOSE: (&str, &str) = (
+    "0 open /dev/tty7 w\n0 open /dev/tty7 r\nin tty7 4142\n0 write 0 6162\n0 close 0\ntake tty7 1\n0 close 1\n0 open /dev/tty7 rw\n0 read 0 9\ntake tty7 512",
+    "0 ok 0\n0 ok 1\ntty7 noted\ntty7 noted\n0 ok 2\n0 ok 0\ntty7 out 61\n0 ok 0\n0 ok 0\n0 err EAGAIN not-ready\ntty7 out -\n",
+);
+
+/// Capital hex digits, no bytes, a part of a read, the highest slot, and a count of 0.
+const FORMS: (&str, &str) = (
+    "0 open /dev/tty7 rw\nin tty7 4a4B4c\n0 read 0 2\n0 read 0 0\n0 write 0 -\n31 close 255\n0 close 255\n0 read 0 65535\n",
+    "0 ok 0\ntty7 noted\ntty7 noted\ntty7 noted\n0 bytes 4a4b\n0 bytes -\n0 ok 0\n31 gone\n0 err EBADF bad-fd\n0 err EINVAL size\n",
+);
+
+#[test]
+fn valid_scripts(rt: HostRuntime) -> Result<(), Fail> {
+    let rows = [EMPTY_TEXT, FIRST_RUN, NO_EARLIER_BYTE, LAST_CLOSE, FORMS];
+    for (text, answers) in rows {
+        let (written, status) = run(rt.alloc(), text.as_bytes())?;
+        assert_eq!(rt; written.as_slice(), answers.as_bytes(), "for {text:?}");
+        assert_eq!(rt; status, Status::Done, "for {text:?}");
+    }
+    Ok(())
+}
+
+#[test]
+fn refusals_up_to_a_bad_line(rt: HostRuntime) -> Result<(), Fail> {
+    let text =
+        "0 read 3 5\n0 open /dev/tty7 r\n0 write 0 61\n0 read 0 513\n0 read 0 5\n1 close 0\n0 fork\n0 close 0\n";
+    let answers =
+        "0 err EBADF bad-fd\n0 ok 0\n0 err EBADF fd-mode\n0 err EINVAL size\n0 err EAGAIN not-ready\n1 gone\nline 7\n";
+    let (written, status) = run(rt.alloc(), text.as_bytes())?;
+    assert_eq!(rt; written.as_slice(), answers.as_bytes());
+    assert_eq!(rt; status, Status::Input);
+    Ok(())
+}
+
+/// Each way for a line to be bad.
+const BAD_LINES: [&str; 34] = [
+    "",
+    " ",
+    " 0 close 0",
+    "0 close 0 ",
+    "0  close 0",
+    "0\tclose 0",
+    "0 close 0\r",
+    "0 close 0\0",
+    "0 close \x7f",
+    "# a comment",
+    "0",
+    "0 jump",
+    "0 close",
+    "0 close 0 0",
+    "0 close 256",
+    "0 close 00",
+    "0 close +1",
+    "0 close -1",
+    "0 close 0x1",
+    "32 close 0",
+    "00 close 0",
+    "0 read 0 65536",
+    "0 write 0 6",
+    "0 write 0 6g",
+    "0 open /dev/tty7",
+    "0 open /dev/tty7 wr",
+    "0 open /dev/tty7 rw -",
+    "0 open /dev/tty6 rw",
+    "0 revoke /dev/tty0",
+    "in tty7 -",
+    "in tty6 61",
+    "in tty7 6",
+    "take tty7 0",
+    "take tty7 513",
+];
+
+#[test]
+fn bad_lines(rt: HostRuntime) -> Result<(), Fail> {
+    for line in BAD_LINES {
+        let text = format!(in rt.alloc(); "1 close 0\n{line}\n1 close 0\n")?;
+        let (written, status) = run(rt.alloc(), text.as_bytes())?;
+        assert_eq!(rt;
+            written.as_slice(),
+            b"1 gone\nline 2\n".as_slice(),
+            "for {line:?}"
+        );
+        assert_eq!(rt; status, Status::Input, "for {line:?}");
+    }
+    Ok(())
+}
+
+/// The longest line has 4,096 bytes. Here its one word is a number that is too great; a byte
+/// more makes a line bad before it is looked at, and both are bad lines. A write of 513 bytes
+/// is bad too, and one of 512 is whole.
+#[test]
+fn long_lines(rt: HostRuntime) -> Result<(), Fail> {
+    for (bytes, answer) in [(512, "0 err EBADF bad-fd\n"), (513, "line 1\n")] {
+        let mut text = Vec::from_slice(rt.alloc(), b"0 write 0 ")?;
+        for _ in 0..bytes {
+            text.extend_from_slice(b"61")?;
+        }
+        let (written, _) = run(rt.alloc(), text.as_slice())?;
+        assert_eq!(rt; written.as_slice(), answer.as_bytes(), "for {bytes} bytes");
+    }
+    for length in [4_096usize, 4_097, 10_000] {
+        let mut text = vec![in rt.alloc(); b'7'; length]?;
+        text.extend_from_slice(b"\n1 close 0\n")?;
+        let (written, _) = run(rt.alloc(), text.as_slice())?;
+        assert_eq!(rt;
+            written.as_slice(),
+            b"line 1\n".as_slice(),
+            "for {length} bytes"
+        );
+    }
+    Ok(())
+}
+
+fn takes(alloc: Global, count: u32) -> Result<Vec<u8>, AllocError> {
+    let mut text = Vec::new(alloc);
+    for _ in 0..count {
+        text.extend_from_slice(b"take tty7 1\n")?;
+    }
+    Ok(text)
+}
+
+/// 262,144 events are the most that a run has.
+#[test]
+fn one_event_too_many(rt: HostRuntime) -> Result<(), Fail> {
+    let (most, status) = run(rt.alloc(), takes(rt.alloc(), 262_144)?.as_slice())?;
+    assert_eq!(rt; status, Status::Done);
+    assert_eq!(rt; most.len(), 262_144 * "tty7 out -\n".len());
+
+    let (more, status) = run(rt.alloc(), takes(rt.alloc(), 262_145)?.as_slice())?;
+    assert_eq!(rt; status, Status::Full);
+    assert_eq!(rt; more.len(), most.len() + 5);
+    let (front, end) = more.as_slice().split_at(most.len());
+    assert_eq!(rt; front, most.as_slice());
+    assert_eq!(rt; end, b"full\n".as_slice());
+    Ok(())
+}
