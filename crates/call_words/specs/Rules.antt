@@ -1,13 +1,150 @@
--- The errno of each rule, after intro(2).
+-- The errno of each rule (intro(2)), and the words that are printed of both.
+use Rattle.std.specs.Prelude.{ℕ, List, codes}
 use Rattle.call_words.specs.declared.rules.Rule.{Rule}
-use Rattle.call_words.specs.declared.rules.Rule.TheVariants.{Size, BadFd, FdMode, Dead, NotReady, FdRoom}
+use Rattle.call_words.specs.declared.rules.Rule.TheVariants as rule
 use Rattle.call_words.specs.declared.rules.Errno.{Errno}
-use Rattle.call_words.specs.declared.rules.Errno.TheVariants.{EINVAL, EBADF, EIO, EAGAIN, EMFILE}
+use Rattle.call_words.specs.declared.rules.Errno.TheVariants as errno
 
 abbrev pub errno_of : Rule → Errno
-errno_of Size = EINVAL
-errno_of BadFd = EBADF
-errno_of FdMode = EBADF
-errno_of Dead = EIO
-errno_of NotReady = EAGAIN
-errno_of FdRoom = EMFILE
+errno_of rule.Owner = errno.EPERM
+errno_of rule.Super = errno.EPERM
+errno_of rule.Relabel = errno.EPERM
+errno_of rule.Proclabel = errno.EPERM
+errno_of rule.NotLeader = errno.EPERM
+errno_of rule.HasTty = errno.EPERM
+errno_of rule.LineTaken = errno.EPERM
+errno_of rule.Leader = errno.EPERM
+errno_of rule.Session = errno.EPERM
+errno_of rule.Group = errno.EPERM
+errno_of rule.SigOwner = errno.EPERM
+errno_of rule.Search = errno.EACCES
+errno_of rule.List = errno.EACCES
+errno_of rule.LabelRead = errno.EACCES
+errno_of rule.LabelWrite = errno.EACCES
+errno_of rule.NotFile = errno.EACCES
+errno_of rule.ChildExec = errno.EACCES
+errno_of rule.Awake = errno.EINVAL
+errno_of rule.Begun = errno.EINVAL
+errno_of rule.Flags = errno.EINVAL
+errno_of rule.Size = errno.EINVAL
+errno_of rule.AclBad = errno.EINVAL
+errno_of rule.NoRevoke = errno.EINVAL
+errno_of rule.Time = errno.EINVAL
+errno_of rule.SigFixed = errno.EINVAL
+errno_of rule.Asleep = errno.EBUSY
+errno_of rule.Init = errno.EBUSY
+errno_of rule.InUse = errno.EBUSY
+errno_of rule.Device = errno.EBUSY
+errno_of rule.BadFd = errno.EBADF
+errno_of rule.FdMode = errno.EBADF
+errno_of rule.Dead = errno.EIO
+errno_of rule.Zombie = errno.EIO
+errno_of rule.Background = errno.EIO
+errno_of rule.Ended = errno.ENXIO
+errno_of rule.NoTty = errno.ENXIO
+errno_of rule.NotLine = errno.ENOTTY
+errno_of rule.NotCtty = errno.ENOTTY
+errno_of rule.PathLong = errno.ENAMETOOLONG
+errno_of rule.NameLong = errno.ENAMETOOLONG
+errno_of rule.NoEntry = errno.ENOENT
+errno_of rule.NotDir = errno.ENOTDIR
+errno_of rule.IsDir = errno.EISDIR
+errno_of rule.Exists = errno.EEXIST
+errno_of rule.NotEmpty = errno.ENOTEMPTY
+errno_of rule.NodeRoom = errno.ENOSPC
+errno_of rule.FileSpace = errno.ENOSPC
+errno_of rule.FdRoom = errno.EMFILE
+errno_of rule.OpenRoom = errno.ENFILE
+errno_of rule.Pool = errno.ENOBUFS
+errno_of rule.NotReady = errno.EAGAIN
+errno_of rule.Slots = errno.EAGAIN
+errno_of rule.NoProcess = errno.ESRCH
+errno_of rule.NoChild = errno.ECHILD
+errno_of rule.Image = errno.ENOEXEC
+errno_of rule.NoReader = errno.EPIPE
+errno_of rule.Signal = errno.EINTR
+
+abbrev pub rule_word : Rule → List ℕ
+rule_word rule.Owner = codes "owner"
+rule_word rule.Super = codes "super"
+rule_word rule.Relabel = codes "relabel"
+rule_word rule.Proclabel = codes "proclabel"
+rule_word rule.NotLeader = codes "not-leader"
+rule_word rule.HasTty = codes "has-tty"
+rule_word rule.LineTaken = codes "line-taken"
+rule_word rule.Leader = codes "leader"
+rule_word rule.Session = codes "session"
+rule_word rule.Group = codes "group"
+rule_word rule.SigOwner = codes "sig-owner"
+rule_word rule.Search = codes "search"
+rule_word rule.List = codes "list"
+rule_word rule.LabelRead = codes "label-read"
+rule_word rule.LabelWrite = codes "label-write"
+rule_word rule.NotFile = codes "not-file"
+rule_word rule.ChildExec = codes "child-exec"
+rule_word rule.Awake = codes "awake"
+rule_word rule.Begun = codes "begun"
+rule_word rule.Flags = codes "flags"
+rule_word rule.Size = codes "size"
+rule_word rule.AclBad = codes "acl-bad"
+rule_word rule.NoRevoke = codes "no-revoke"
+rule_word rule.Time = codes "time"
+rule_word rule.SigFixed = codes "sig-fixed"
+rule_word rule.Asleep = codes "asleep"
+rule_word rule.Init = codes "init"
+rule_word rule.InUse = codes "in-use"
+rule_word rule.Device = codes "device"
+rule_word rule.BadFd = codes "bad-fd"
+rule_word rule.FdMode = codes "fd-mode"
+rule_word rule.Dead = codes "dead"
+rule_word rule.Zombie = codes "zombie"
+rule_word rule.Background = codes "background"
+rule_word rule.Ended = codes "ended"
+rule_word rule.NoTty = codes "no-tty"
+rule_word rule.NotLine = codes "not-line"
+rule_word rule.NotCtty = codes "not-ctty"
+rule_word rule.PathLong = codes "path-long"
+rule_word rule.NameLong = codes "name-long"
+rule_word rule.NoEntry = codes "no-entry"
+rule_word rule.NotDir = codes "not-dir"
+rule_word rule.IsDir = codes "is-dir"
+rule_word rule.Exists = codes "exists"
+rule_word rule.NotEmpty = codes "not-empty"
+rule_word rule.NodeRoom = codes "node-room"
+rule_word rule.FileSpace = codes "file-space"
+rule_word rule.FdRoom = codes "fd-room"
+rule_word rule.OpenRoom = codes "open-room"
+rule_word rule.Pool = codes "pool"
+rule_word rule.NotReady = codes "not-ready"
+rule_word rule.Slots = codes "slots"
+rule_word rule.NoProcess = codes "no-process"
+rule_word rule.NoChild = codes "no-child"
+rule_word rule.Image = codes "image"
+rule_word rule.NoReader = codes "no-reader"
+rule_word rule.Signal = codes "signal"
+
+abbrev pub errno_word : Errno → List ℕ
+errno_word errno.EPERM = codes "EPERM"
+errno_word errno.EACCES = codes "EACCES"
+errno_word errno.EINVAL = codes "EINVAL"
+errno_word errno.EBUSY = codes "EBUSY"
+errno_word errno.EBADF = codes "EBADF"
+errno_word errno.EIO = codes "EIO"
+errno_word errno.ENXIO = codes "ENXIO"
+errno_word errno.ENOTTY = codes "ENOTTY"
+errno_word errno.ENAMETOOLONG = codes "ENAMETOOLONG"
+errno_word errno.ENOENT = codes "ENOENT"
+errno_word errno.ENOTDIR = codes "ENOTDIR"
+errno_word errno.EISDIR = codes "EISDIR"
+errno_word errno.EEXIST = codes "EEXIST"
+errno_word errno.ENOTEMPTY = codes "ENOTEMPTY"
+errno_word errno.ENOSPC = codes "ENOSPC"
+errno_word errno.EMFILE = codes "EMFILE"
+errno_word errno.ENFILE = codes "ENFILE"
+errno_word errno.ENOBUFS = codes "ENOBUFS"
+errno_word errno.EAGAIN = codes "EAGAIN"
+errno_word errno.ESRCH = codes "ESRCH"
+errno_word errno.ECHILD = codes "ECHILD"
+errno_word errno.ENOEXEC = codes "ENOEXEC"
+errno_word errno.EPIPE = codes "EPIPE"
+errno_word errno.EINTR = codes "EINTR"

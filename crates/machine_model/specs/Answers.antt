@@ -2,11 +2,7 @@
 use Rattle.std.specs.Prelude.{ℕ, ◌==◌, List, [], ◌++◌, length, flat_map, if◌then◌else◌, codes}
 use Rattle.std.specs.Fmt.{decimal}
 use Rattle.hex.specs.Hex.{encode_lower}
-use Rattle.call_words.specs.Rules.{errno_of}
-use Rattle.call_words.specs.declared.rules.Rule.{Rule}
-use Rattle.call_words.specs.declared.rules.Rule.TheVariants.{Size, BadFd, FdMode, Dead, NotReady, FdRoom}
-use Rattle.call_words.specs.declared.rules.Errno.{Errno}
-use Rattle.call_words.specs.declared.rules.Errno.TheVariants.{EINVAL, EBADF, EIO, EAGAIN, EMFILE}
+use Rattle.call_words.specs.Rules.{errno_of, rule_word, errno_word}
 use Rattle.call_words.specs.declared.events.Event.{Event}
 use Rattle.call_words.specs.declared.events.Event.TheVariants as event
 use Rattle.call_words.specs.declared.events.Reply.{Reply}
@@ -18,21 +14,6 @@ use Rattle.machine_model.specs.Step.{WakeList}
 -- pairs of hex digits in lower case, and a dash for no bytes
 unfoldable pub hex_word : List ℕ → List ℕ
 hex_word bs = if length bs == 0 then codes "-" else encode_lower bs
-
-abbrev pub errno_word : Errno → List ℕ
-errno_word EINVAL = codes "EINVAL"
-errno_word EBADF = codes "EBADF"
-errno_word EIO = codes "EIO"
-errno_word EAGAIN = codes "EAGAIN"
-errno_word EMFILE = codes "EMFILE"
-
-abbrev pub rule_word : Rule → List ℕ
-rule_word Size = codes "size"
-rule_word BadFd = codes "bad-fd"
-rule_word FdMode = codes "fd-mode"
-rule_word Dead = codes "dead"
-rule_word NotReady = codes "not-ready"
-rule_word FdRoom = codes "fd-room"
 
 abbrev pub reply_text : Reply → List ℕ
 reply_text (Num n) = codes "ok " ++ decimal n

@@ -5,11 +5,11 @@ ghost use Rattle.hex.specs.Hex.{encode_lower};
 ghost use Rattle.arrayvec.specs.ArrayVec.{array_vec_len};
 ghost use Rattle.call_words.specs.declared.text.TheConstants.{PIECE_BYTES};
 ghost use Rattle.machine_model.specs.Step.{listed};
-ghost use Rattle.machine_model.specs.Answers.{hex_word, errno_word, rule_word, reply_text, decision_text, asker_text, wake_text, answer_line};
+ghost use Rattle.machine_model.specs.Answers.{hex_word, reply_text, decision_text, asker_text, wake_text, answer_line};
 ghost use Rattle.machine_model.specs.Script.{text_end, boot_end};
 
 use arrayvec::ArrayVec;
-use call_words::{Decision, Errno, Event, PIECE_BYTES, Reply, Rule, Wakes};
+use call_words::{Decision, Event, PIECE_BYTES, Reply, Wakes};
 
 /// How many bytes an answer line has at most.
 pub const ANSWER_BYTES: usize = 16_384;
@@ -61,33 +61,6 @@ fn push_hex(out: &mut AnswerLine, bytes: &[u8])
     push_pairs(out, bytes, &mut room[..2 * bytes.len()]);
 }
 
-fn errno_name(errno: Errno) -> &'static [u8]
-    ensures word { result.now ≡ errno_word errno }
-    ensures len { length result.now ≤ 16 }
-{
-    match errno {
-        Errno::EINVAL => b"EINVAL",
-        Errno::EBADF => b"EBADF",
-        Errno::EIO => b"EIO",
-        Errno::EAGAIN => b"EAGAIN",
-        Errno::EMFILE => b"EMFILE",
-    }
-}
-
-fn rule_name(rule: Rule) -> &'static [u8]
-    ensures word { result.now ≡ rule_word rule }
-    ensures len { length result.now ≤ 16 }
-{
-    match rule {
-        Rule::Size => b"size",
-        Rule::BadFd => b"bad-fd",
-        Rule::FdMode => b"fd-mode",
-        Rule::Dead => b"dead",
-        Rule::NotReady => b"not-ready",
-        Rule::FdRoom => b"fd-room",
-    }
-}
-
 fn push_reply(out: &mut AnswerLine, reply: &Reply)
     requires { array_vec_len out.old + 1100 ≤ ANSWER_BYTES }
     ensures bytes { out.new.items ≡ out.old.items ++ reply_text reply.now }
@@ -104,9 +77,9 @@ fn push_reply(out: &mut AnswerLine, reply: &Reply)
         }
         Reply::Denied(rule) => {
             push_all(out, b"err ");
-            push_all(out, errno_name(rule.errno()));
+            push_all(out, rule.errno().name());
             push_all(out, b" ");
-            push_all(out, rule_name(*rule));
+            push_all(out, rule.word());
         }
         Reply::Gone => push_all(out, b"gone"),
     }
