@@ -1,0 +1,16 @@
+pub mod More
+pub mod Decimals
+pub mod Texts
+pub mod Tags
+pub mod Walked
+pub mod Faults
+pub mod Order
+pub mod Modes
+pub mod Retagged
+pub mod Parse
+pub mod Numbers
+pub mod Grammar
+pub mod Whole
+pub mod DecidingLaws
+pub mod ModeLaws
+pub mod Words

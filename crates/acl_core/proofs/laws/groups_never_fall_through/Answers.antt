@@ -1,0 +1,5 @@
+use Rattle.acl_core.proofs.DecidingLaws.{groups_alone}
+use Rattle.acl_core.proofs.laws.groups_never_fall_through.Goals as goal
+
+pub returns : goal.returns
+returns c = groups_alone

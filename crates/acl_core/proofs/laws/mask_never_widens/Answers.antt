@@ -1,0 +1,5 @@
+use Rattle.acl_core.proofs.DecidingLaws.{mask_narrows}
+use Rattle.acl_core.proofs.laws.mask_never_widens.Goals as goal
+
+pub returns : goal.returns
+returns c = mask_narrows

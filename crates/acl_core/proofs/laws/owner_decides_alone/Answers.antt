@@ -1,0 +1,5 @@
+use Rattle.acl_core.proofs.DecidingLaws.{owner_alone}
+use Rattle.acl_core.proofs.laws.owner_decides_alone.Goals as goal
+
+pub returns : goal.returns
+returns c = owner_alone

@@ -1,0 +1,5 @@
+use Rattle.acl_core.proofs.DecidingLaws.{user_alone}
+use Rattle.acl_core.proofs.laws.user_decides_alone.Goals as goal
+
+pub returns : goal.returns
+returns c = user_alone

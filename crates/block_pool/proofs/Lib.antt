@@ -1,0 +1,4 @@
+pub mod Times
+pub mod Leases
+pub mod Blocks
+pub mod Circle

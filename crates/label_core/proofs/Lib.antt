@@ -1,0 +1,16 @@
+pub mod Ranges
+pub mod Marks
+pub mod Sets
+pub mod Dominance
+pub mod Decimals
+pub mod PrintedSets
+pub mod Literals
+pub mod Readers
+pub mod Lists
+pub mod Spelling
+pub mod Rereading
+pub mod Canonical
+pub mod TextLaws
+pub mod Faults
+pub mod FaultPlaces
+pub mod FirstFaults

@@ -1,0 +1,5 @@
+use Rattle.label_core.proofs.PrintedSets.{IsPrinted}
+use Rattle.label_core.proofs.printing.push_set.Given as goal
+
+abbrev pub invariant-loop-n : goal.invariant-loop-n
+invariant-loop-n l = IsPrinted l.set l.fn.out.items l.out.items l.mark l.n
