@@ -1,6 +1,6 @@
 -- Bytes in blocks that run one after another.
-use Rattle.std.proofs.Common.{◌≡◌, ℕ, zero, suc, ◌+◌, ◌*◌, ◌/◌, ◌%◌, ◌<◌, ◌≤◌, ◌≢◌, List, [], ◌∷◌, ◌++◌, length, get_or, set, take, replicate, sym, refl, ap, ap₂, ◌∙◌, ◌⊎◌, inl, inr, arith, length-append, length-take-le}
-use Rattle.std.specs.List.{All, Contains, flat_map}
+use Rattle.std.proofs.Common.{◌≡◌, ℕ, ◌+◌, ◌*◌, ◌/◌, ◌%◌, ◌<◌, ◌≤◌, ◌≢◌, List, [], ◌∷◌, ◌++◌, length, get_or, set, take, replicate, sym, refl, ap, ap₂, ◌∙◌, inl, inr, arith, length-append, length-take-le}
+use Rattle.std.specs.List.{All, Contains}
 use Rattle.std.proofs.lemmas.List.{length-replicate, ext_get_or, get_or-set_same, get_or-set_other, length-set}
 use Rattle.std.proofs.lemmas.Bool.{cases_eq}
 use Rattle.std.proofs.lemmas.List.Concat.{get_or-flat_map}
@@ -32,8 +32,8 @@ get_or-laid pool blocks q w below =
     let inside : q / 128 < length blocks = omega arith in
     let whole : length (contents pool (get_or blocks (q / 128) 0)) ≡ 128 = w.whole (q / 128) 0 inside in
     let before : length (laid pool (take (q / 128) blocks)) ≡ 128 * (q / 128) =
-      length-laid pool (take (q / 128) blocks) (record { whole = All-take (λ c. length (contents pool c) ≡ 128) (q / 128) blocks w.whole })
-      ∙ ap (λ n. 128 * n) (length-take-le (q / 128) blocks (omega arith)) in
+    length-laid pool (take (q / 128) blocks) (record { whole = All-take (λ c. length (contents pool c) ≡ 128) (q / 128) blocks w.whole })
+    ∙ ap (λ n. 128 * n) (length-take-le (q / 128) blocks (omega arith)) in
     let at : length (laid pool (take (q / 128) blocks)) + q % 128 ≡ q = omega (arith, before) in
     ap (λ n. get_or (laid pool blocks) n 0) (sym at)
     ∙ get_or-flat_map (contents pool) blocks (q / 128) (q % 128) 0 0 inside (omega (arith, whole))
@@ -56,7 +56,7 @@ length-contents-put pool b o v c h = grind (arith, contents-put_same pool b o v 
 
 -- the byte in a place of blocks, of which none is twice, after a byte was put into a place
 get_or-laid_put : (pool : PoolState) (blocks : List ℕ) (p v q : ℕ) → AreWhole pool blocks → ((n : ℕ) → times n blocks ≤ 1) → p < 128 * length blocks → q < 128 * length blocks → get_or blocks (p / 128) 0 < length pool.blocks →
-  get_or (contents (put_at pool (get_or blocks (p / 128) 0) (p % 128) v) (get_or blocks (q / 128) 0)) (q % 128) 0 ≡ get_or (set (laid pool blocks) p v) q 0
+    get_or (contents (put_at pool (get_or blocks (p / 128) 0) (p % 128) v) (get_or blocks (q / 128) 0)) (q % 128) 0 ≡ get_or (set (laid pool blocks) p v) q 0
 get_or-laid_put pool blocks p v q w once hp hq inside =
     let b : ℕ = get_or blocks (p / 128) 0 in
     let o : ℕ = p % 128 in
@@ -66,24 +66,24 @@ get_or-laid_put pool blocks p v q w once hp hq inside =
     let in_block : p % 128 < length (contents pool (get_or blocks (p / 128) 0)) = omega (arith, whole) in
     elim (cases_eq (q / 128) (p / 128)) [
       | inl same ↦
-        rw (same, contents-put_same pool b o v inside) (elim (cases_eq q p) [
-          | inl here ↦ rw here (get_or-set_same (contents pool b) o v 0 in_block ∙ sym (get_or-set_same (laid pool blocks) p v 0 (omega (arith, all_bytes))))
-          | inr there ↦
-            let apart : q % 128 ≢ p % 128 = λ e. there (omega arith) in
-            get_or-set_other (contents pool b) o (q % 128) v 0 apart
-            ∙ ap (λ k. get_or (contents pool (get_or blocks k 0)) (q % 128) 0) (sym same)
-            ∙ sym before ∙ sym (get_or-set_other (laid pool blocks) p q v 0 there)
-        ])
+          rw (same, contents-put_same pool b o v inside) (elim (cases_eq q p) [
+            | inl here ↦ rw here (get_or-set_same (contents pool b) o v 0 in_block ∙ sym (get_or-set_same (laid pool blocks) p v 0 (omega (arith, all_bytes))))
+            | inr there ↦
+                let apart : q % 128 ≢ p % 128 = λ e. there (omega arith) in
+                get_or-set_other (contents pool b) o (q % 128) v 0 apart
+                ∙ ap (λ k. get_or (contents pool (get_or blocks k 0)) (q % 128) 0) (sym same)
+                ∙ sym before ∙ sym (get_or-set_other (laid pool blocks) p q v 0 there)
+          ])
       | inr other ↦
-        let not_there : q ≢ p = λ e. other (ap (λ n. n / 128) e) in
-        let other_block : get_or blocks (q / 128) 0 ≢ get_or blocks (p / 128) 0 = λ e. other (same_place blocks (q / 128) (p / 128) (omega arith) (omega arith) once e) in
-        ap (λ xs. get_or xs (q % 128) 0) (contents-put_other pool b o v (get_or blocks (q / 128) 0) other_block)
-        ∙ sym before ∙ sym (get_or-set_other (laid pool blocks) p q v 0 not_there)
+          let not_there : q ≢ p = λ e. other (ap (λ n. n / 128) e) in
+          let other_block : get_or blocks (q / 128) 0 ≢ get_or blocks (p / 128) 0 = λ e. other (same_place blocks (q / 128) (p / 128) (omega arith) (omega arith) once e) in
+          ap (λ xs. get_or xs (q % 128) 0) (contents-put_other pool b o v (get_or blocks (q / 128) 0) other_block)
+          ∙ sym before ∙ sym (get_or-set_other (laid pool blocks) p q v 0 not_there)
     ]
 
 -- blocks of which none is twice, with a byte put into a place, are changed at that place
 laid_put : (pool : PoolState) (blocks : List ℕ) (p v : ℕ) → AreWhole pool blocks → ((n : ℕ) → times n blocks ≤ 1) → p < 128 * length blocks → get_or blocks (p / 128) 0 < length pool.blocks →
-  laid (put_at pool (get_or blocks (p / 128) 0) (p % 128) v) blocks ≡ set (laid pool blocks) p v
+    laid (put_at pool (get_or blocks (p / 128) 0) (p % 128) v) blocks ≡ set (laid pool blocks) p v
 laid_put pool blocks p v w once below inside =
     let b : ℕ = get_or blocks (p / 128) 0 in
     let new : PoolState = put_at pool (get_or blocks (p / 128) 0) (p % 128) v in
@@ -91,8 +91,8 @@ laid_put pool blocks p v w once below inside =
     let old_len = length-laid pool blocks w in
     let new_len = length-laid new blocks w2 in
     ext_get_or 0 (laid new blocks) (set (laid pool blocks) p v) (omega (arith, old_len, new_len, length-set (laid pool blocks) p v)) (λ q h.
-      let below_q : q < 128 * length blocks = omega (arith, new_len, h) in
-      get_or-laid new blocks q w2 below_q ∙ get_or-laid_put pool blocks p v q w once below below_q inside)
+    let below_q : q < 128 * length blocks = omega (arith, new_len, h) in
+    get_or-laid new blocks q w2 below_q ∙ get_or-laid_put pool blocks p v q w once below below_q inside)
 
 -- leased blocks are whole where all are
 pub whole_leased : (pool : PoolState) (blocks : List ℕ) → All (λ bytes. length bytes ≡ 128) pool.blocks → AreOf pool blocks → AreWhole pool blocks
@@ -100,7 +100,7 @@ whole_leased pool blocks whole leased = record { whole = λ k d h. whole (get_or
 
 -- a byte put into a block of a lease, at a place in it, is put into the lease's bytes
 pub laid_put_leased : (old new : PoolState) (blocks : List ℕ) (p v b : ℕ) → All (λ bytes. length bytes ≡ 128) old.blocks → AreOf old blocks → p < 128 * length blocks → b ≡ get_or blocks (p / 128) 0 →
-  new.blocks ≡ set old.blocks b (set (contents old b) (p % 128) v) → laid new blocks ≡ set (laid old blocks) p v
+    new.blocks ≡ set old.blocks b (set (contents old b) (p % 128) v) → laid new blocks ≡ set (laid old blocks) p v
 laid_put_leased old new blocks p v b whole leased below is put =
     let inside : p / 128 < length blocks = omega arith in
     let step : new.blocks ≡ (put_at old (get_or blocks (p / 128) 0) (p % 128) v).blocks = put ∙ ap (λ n. set old.blocks n (set (contents old n) (p % 128) v)) is in
@@ -118,3 +118,22 @@ pub laid_apart : (old new : PoolState) (blocks others : List ℕ) → WritesTo b
 laid_apart old new blocks others writes apart =
     laid_same old new others (λ k d h. writes.others (get_or others k d) (λ own. apart (get_or others k d) own (Contains-get_or others k d h)))
 
+-- no write leaves all as it is
+pub writes_none : (own : List ℕ) (pool : PoolState) → WritesTo own pool pool
+writes_none own pool = record { free = refl; size = refl; others = λ n apart. refl }
+
+-- what is written to blocks is written to blocks that contain them
+pub writes_wider : (own wider : List ℕ) (old new : PoolState) → ((n : ℕ) → Contains own n → Contains wider n) → WritesTo own old new → WritesTo wider old new
+writes_wider own wider old new within writes = record {
+  free = writes.free;
+  size = writes.size;
+  others = λ n apart. writes.others n (λ here. apart (within n here));
+}
+
+-- two writes to the same blocks are one
+pub writes_in_turn : (own : List ℕ) (old middle new : PoolState) → WritesTo own old middle → WritesTo own middle new → WritesTo own old new
+writes_in_turn own old middle new first second = record {
+  free = second.free ∙ first.free;
+  size = second.size ∙ first.size;
+  others = λ n apart. second.others n apart ∙ first.others n apart;
+}

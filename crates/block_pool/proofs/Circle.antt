@@ -1,12 +1,12 @@
 -- A list of bytes in a circle of blocks.
 use Rattle.std.proofs.Common.{◌≡◌, ℕ, zero, suc, ◌+◌, ◌-◌, ◌*◌, ◌%◌, ◌<◌, ◌≤◌, ◌≢◌, ◌⊎◌, inl, inr, List, [], ◌∷◌, ◌++◌, length, get_or, set, map, sym, refl, ap, ap₂, ◌∙◌, arith, mod-eq_of_lt}
-use Rattle.std.specs.List.{All, flat_map, range_with_len}
+use Rattle.std.specs.List.{All, range_with_len}
 use Rattle.std.proofs.Math.Nat.{mod-eq-sub-mod, mod-add-mod}
 use Rattle.std.proofs.lemmas.Bool.{cases_lt}
 use Rattle.std.proofs.lemmas.List.{ext_get_or, get_or-set_same, get_or-set_other}
 use Rattle.std.proofs.lemmas.List.FromFn.{length-map-range_with_len, get_or-map-range_with_len, map-range_with_len_more}
 use Rattle.block_pool.specs.Pool.{PoolState, laid, contents, AreApart, WritesTo}
-use Rattle.block_pool.specs.Chain.{ChainState, places, holds}
+use Rattle.block_pool.specs.Chain.{ChainState, holds}
 use Rattle.block_pool.proofs.Blocks.{laid_same, laid_apart}
 
 -- a place below twice the size goes round once at most
@@ -31,8 +31,8 @@ mod_apart size a d some less same =
 map_agree : (f g : ℕ → ℕ) (a b n : ℕ) → ((i : ℕ) → i < n → f (a + i) ≡ g (b + i)) → map f (range_with_len a n) ≡ map g (range_with_len b n)
 map_agree f g a b n same =
     ext_get_or 0 _ _ (length-map-range_with_len f a n ∙ sym (length-map-range_with_len g b n)) (λ i h.
-      let below : i < n = omega (arith, length-map-range_with_len f a n, h) in
-      get_or-map-range_with_len f a n i (a + i) 0 below refl ∙ same i below ∙ sym (get_or-map-range_with_len g b n i (b + i) 0 below refl))
+    let below : i < n = omega (arith, length-map-range_with_len f a n, h) in
+    get_or-map-range_with_len f a n i (a + i) 0 below refl ∙ same i below ∙ sym (get_or-map-range_with_len g b n i (b + i) 0 below refl))
 
 -- a chain holds as many bytes as it counts
 pub length-holds : (pool : PoolState) (chain : ChainState) → length (holds pool chain) ≡ chain.count
@@ -59,24 +59,24 @@ holds_apart blocks old new chain writes apart = holds_laid old new chain (laid_a
 
 -- a byte put behind the last is added at the end
 pub holds_push : (old new : PoolState) (blocks : List ℕ) (first count size v : ℕ) → 128 * length blocks ≡ size → count < size → length (laid old blocks) ≡ size →
-  laid new blocks ≡ set (laid old blocks) ((first + count) % size) v →
-  holds new (record { blocks = blocks; first = first; count = count + 1 }) ≡ holds old (record { blocks = blocks; first = first; count = count }) ++ v ∷ []
+    laid new blocks ≡ set (laid old blocks) ((first + count) % size) v →
+    holds new (record { blocks = blocks; first = first; count = count + 1 }) ≡ holds old (record { blocks = blocks; first = first; count = count }) ++ v ∷ []
 unfolding holds
 holds_push old new blocks first count size v is_size room is_length put =
     let f : ℕ → ℕ = λ i. get_or (laid new blocks) ((first + i) % (128 * length blocks)) 0 in
     let g : ℕ → ℕ = λ i. get_or (laid old blocks) ((first + i) % (128 * length blocks)) 0 in
     map-range_with_len_more f 0 count count (omega arith)
     ∙ ap₂ (λ (xs : List ℕ) (y : ℕ). xs ++ y ∷ []) (map_agree f g 0 0 count (λ i h.
-      let from_zero : first + (0 + i) ≡ first + i = omega arith in
-      let up_to_count : first + i + (count - i) ≡ first + count = omega arith in
-      let apart : (first + (0 + i)) % (128 * length blocks) ≢ (first + count) % size = λ e. mod_apart size (first + i) (count - i) (omega arith) (omega arith) (cc) in
-      rw put (get_or-set_other (laid old blocks) ((first + count) % size) ((first + (0 + i)) % (128 * length blocks)) v 0 apart)))
-      (let inside : (first + count) % size < length (laid old blocks) = omega arith in
-        rw (is_size, put) (get_or-set_same (laid old blocks) ((first + count) % size) v 0 inside))
+    let from_zero : first + (0 + i) ≡ first + i = omega arith in
+    let up_to_count : first + i + (count - i) ≡ first + count = omega arith in
+    let apart : (first + (0 + i)) % (128 * length blocks) ≢ (first + count) % size = λ e. mod_apart size (first + i) (count - i) (omega arith) (omega arith) (cc) in
+    rw put (get_or-set_other (laid old blocks) ((first + count) % size) ((first + (0 + i)) % (128 * length blocks)) v 0 apart)))
+    (let inside : (first + count) % size < length (laid old blocks) = omega arith in
+    rw (is_size, put) (get_or-set_same (laid old blocks) ((first + count) % size) v 0 inside))
 
 -- the first byte is the one at the first place
 pub holds_front : (pool : PoolState) (blocks : List ℕ) (first count size : ℕ) → 128 * length blocks ≡ size → 0 < count →
-  holds pool (record { blocks = blocks; first = first; count = count }) ≡ get_or (laid pool blocks) (first % size) 0 ∷ holds pool (record { blocks = blocks; first = (first + 1) % size; count = count - 1 })
+    holds pool (record { blocks = blocks; first = first; count = count }) ≡ get_or (laid pool blocks) (first % size) 0 ∷ holds pool (record { blocks = blocks; first = (first + 1) % size; count = count - 1 })
 unfolding holds
 holds_front pool blocks first zero size is_size some = elim some [ ]
 holds_front pool blocks first (suc count) size is_size some =
@@ -85,13 +85,13 @@ holds_front pool blocks first (suc count) size is_size some =
     let at_first : (first + 0) % (128 * length blocks) ≡ first % size = rw is_size (ap (λ n. n % size) (omega arith)) in
     let one_less : suc count - 1 ≡ count = omega arith in
     rw one_less (ap₂ (λ (x : ℕ) (xs : List ℕ). x ∷ xs) (ap (λ n. get_or (laid pool blocks) n 0) at_first) (map_agree f g 1 0 count (λ i h.
-      let next : (first + (1 + i)) % (128 * length blocks) ≡ ((first + 1) % size + (0 + i)) % (128 * length blocks) =
-        rw is_size (ap (λ n. n % size) (omega arith) ∙ sym (mod-add-mod (first + 1) size (0 + i))) in
-      ap (λ n. get_or (laid pool blocks) n 0) next)))
+    let next : (first + (1 + i)) % (128 * length blocks) ≡ ((first + 1) % size + (0 + i)) % (128 * length blocks) =
+    rw is_size (ap (λ n. n % size) (omega arith) ∙ sym (mod-add-mod (first + 1) size (0 + i))) in
+    ap (λ n. get_or (laid pool blocks) n 0) next)))
 
 -- the last byte is the one as many places on as there are before it
 pub holds_back : (pool : PoolState) (blocks : List ℕ) (first count size : ℕ) → 128 * length blocks ≡ size → 0 < count →
-  holds pool (record { blocks = blocks; first = first; count = count }) ≡ holds pool (record { blocks = blocks; first = first; count = count - 1 }) ++ get_or (laid pool blocks) ((first + (count - 1)) % size) 0 ∷ []
+    holds pool (record { blocks = blocks; first = first; count = count }) ≡ holds pool (record { blocks = blocks; first = first; count = count - 1 }) ++ get_or (laid pool blocks) ((first + (count - 1)) % size) 0 ∷ []
 unfolding holds
 holds_back pool blocks first count size is_size some =
     let f : ℕ → ℕ = λ i. get_or (laid pool blocks) ((first + i) % (128 * length blocks)) 0 in

@@ -1,6 +1,6 @@
 -- Leases of a pool, as lists of block numbers.
-use Rattle.std.proofs.Common.{◌≡◌, ℕ, zero, suc, ◌+◌, ◌<◌, ◌≤◌, cond, ltb, List, [], ◌∷◌, ◌++◌, length, get_or, sym, refl, ap, ap₂, ◌∙◌, arith, append_assoc, append-nil, length-append}
-use Rattle.std.specs.List.{Contains, range_with_len}
+use Rattle.std.proofs.Common.{◌≡◌, ℕ, ◌+◌, ◌<◌, ◌≤◌, cond, ltb, List, [], ◌++◌, length, get_or, sym, ap, ◌∙◌, arith, append_assoc, append-nil, length-append}
+use Rattle.std.specs.List.{range_with_len}
 use Rattle.std.proofs.lemmas.Bool.Decides.{nat_tests}
 use Rattle.block_pool.specs.Pool.{PoolState, times, blocks_of_number, AreOf, AreAllOf, AreApart, Lends, WritesTo}
 use Rattle.block_pool.proofs.Times.{times-append, times-get_or, times-contained, times-range, length_le_size, length_all}

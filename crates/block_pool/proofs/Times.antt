@@ -1,12 +1,11 @@
 -- How often numbers stand in a list.
-use Rattle.std.proofs.Common.{◌≡◌, ℕ, zero, suc, ◌+◌, ◌<◌, ◌≤◌, ◌≢◌, Bool, true, false, cond, eqb, ltb, List, [], ◌∷◌, ◌++◌, length, get_or, sym, refl, ap, ◌∙◌, arith, inl, inr, subst, add-one, zero-add}
+use Rattle.std.proofs.Common.{◌≡◌, ℕ, zero, suc, ◌+◌, ◌<◌, ◌≤◌, ◌≢◌, true, false, cond, eqb, ltb, List, [], ◌∷◌, ◌++◌, length, get_or, sym, refl, ap, ◌∙◌, arith, inl, inr, subst, add-one, zero-add}
 use Rattle.std.specs.List.{Contains, IsDistinct, AllByRecursion, list_any, range_with_len}
 use Rattle.std.proofs.lemmas.List.{map-id}
 use Rattle.std.proofs.lemmas.List.FromFn.{map-range_with_len_more}
-use Rattle.std.proofs.lemmas.List.Sums.{sum_by-append, sum_by-cons, get_or-le-sum_by}
+use Rattle.std.proofs.lemmas.List.Sums.{sum_by-append, sum_by-cons}
 use Rattle.std.proofs.lemmas.Bool.{cases_eq}
 use Rattle.std.proofs.lemmas.Bool.Decides.{nat_tests}
-use Rattle.std.proofs.lemmas.Grind.{common_steps}
 use Rattle.std.proofs.lemmas.Map.Steps.{length-le_from_distinct_below}
 use Rattle.block_pool.specs.Pool.{times}
 
@@ -83,7 +82,7 @@ times-range m zero = grind (arith, nat_tests)
 times-range m (suc n) =
     let before = times-range m n in
     let more : range_with_len 0 (suc n) ≡ range_with_len 0 n ++ n ∷ [] =
-      ap (range_with_len 0) (sym (add-one n)) ∙ range_more 0 n ∙ ap (λ k. range_with_len 0 n ++ k ∷ []) (zero-add n) in
+    ap (range_with_len 0) (sym (add-one n)) ∙ range_more 0 n ∙ ap (λ k. range_with_len 0 n ++ k ∷ []) (zero-add n) in
     ap (times m) more ∙ times-append m (range_with_len 0 n) (n ∷ []) ∙ grind (arith, nat_tests, times-cons m n [])
 
 -- a list without a number

@@ -1,5 +1,5 @@
 -- What a pool keeps.
-use Rattle.std.specs.Prelude.{◌≡◌, ℕ, ◌^◌, ◌<◌, ◌≤◌, List, [], length, All}
+use Rattle.std.specs.Prelude.{◌≡◌, ℕ, ◌^◌, ◌<◌, ◌≤◌, [], length, All}
 use Rattle.block_pool.specs.Pool.{PoolState, AreOf}
 use Rattle.block_pool.specs.declared.TheConstants.{BLOCK_BYTES}
 

@@ -1,5 +1,5 @@
 -- Blocks of bytes, each of which is free or leased.
-use Rattle.std.specs.Prelude.{◌≡◌, ℕ, ◌+◌, ◌≤◌, ◌==◌, List, ◌++◌, length, nat_lt, count_by, slice_index_or, [], if◌then◌else◌}
+use Rattle.std.specs.Prelude.{◌≡◌, ℕ, ◌≤◌, ◌==◌, List, ◌++◌, length, nat_lt, count_by, slice_index_or, [], if◌then◌else◌}
 use Rattle.std.specs.List.{Contains, flat_map}
 
 -- what contracts see of a pool: what is in each of its blocks, and the numbers of the free ones

@@ -1,16 +1,12 @@
 //! A list of bytes over the blocks of a lease.
-ghost use Rattle.std.specs.Prelude.{◌≡◌, ℕ, ◌+◌, ◌*◌, ◌/◌, ◌%◌, ◌<◌, ◌≤◌, ◌↔◌, [], ◌∷◌, ◌++◌, length, None, slice_index, option_to_list};
-ghost use Rattle.block_pool.specs.declared.TheConstants.{BLOCK_BYTES, LEASE_BLOCKS};
+ghost use Rattle.std.specs.Prelude.{◌≡◌, ◌+◌, ◌*◌, ◌<◌, ◌≤◌, ◌↔◌, [], ◌∷◌, ◌++◌, length, None, option_to_list};
 ghost use Rattle.block_pool.specs.Pool.{PoolState, AreOf, AreApart, WritesTo};
-ghost use Rattle.block_pool.specs.Chain.{ChainState, places, room_of, holds};
+ghost use Rattle.block_pool.specs.Chain.{ChainState, room_of, holds};
 
-use crate::{BLOCK_BYTES, LEASE_BLOCKS};
 use crate::lease::Lease;
 use crate::pool::Pool;
+use crate::{BLOCK_BYTES, LEASE_BLOCKS};
 use std::marker::Model;
-
-/// The bytes of a block, as a size of a chain.
-const BLOCK: u16 = BLOCK_BYTES as u16;
 
 /// A list of bytes over the blocks of a lease, which it uses in a circle.
 ///
@@ -38,7 +34,7 @@ fn bytes_of(lease: &Lease) -> u16
     ensures bytes { result ≡ BLOCK_BYTES * length lease.now }
     ensures most { result ≤ BLOCK_BYTES * LEASE_BLOCKS }
 {
-    BLOCK * lease.len()
+    (lease.numbers().len() * BLOCK_BYTES) as u16
 }
 
 impl Chain {

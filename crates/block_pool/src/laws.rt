@@ -1,6 +1,6 @@
 //! What holds of every pool, its leases and its chains, as contracts of functions that do nothing.
 ghost use Rattle.std.specs.Prelude.{◌≡◌, ℕ, ◌+◌, ◌<◌, ◌↔◌, List, [], ◌++◌, length, All, nat_eq};
-ghost use Rattle.std.specs.List.{IsDistinct};
+ghost use Rattle.std.specs.List.{Contains, IsDistinct};
 ghost use Rattle.block_pool.specs.Pool.{PoolState, contents, times, AreOf, AreAllOf, AreApart, Lends, WritesTo};
 ghost use Rattle.block_pool.specs.Chain.{ChainState, holds};
 
@@ -37,6 +37,14 @@ pub fn all_blocks()
 pub fn writes_leave_leases()
     ensures leased { (own leased : List ℕ) (old new : PoolState) → WritesTo own old new → AreOf old leased → AreOf new leased }
     ensures all { (own leased : List ℕ) (old new : PoolState) → WritesTo own old new → AreAllOf old leased → AreAllOf new leased }
+{}
+
+/// No write is a write, a write to blocks is one to blocks that contain them, and two writes to the
+/// same blocks are one: so a call that works on several chains writes to their blocks together.
+pub fn writes_add_up()
+    ensures none { (own : List ℕ) (pool : PoolState) → WritesTo own pool pool }
+    ensures wider { (own wider : List ℕ) (old new : PoolState) → ((block : ℕ) → Contains own block → Contains wider block) → WritesTo own old new → WritesTo wider old new }
+    ensures in_turn { (own : List ℕ) (old middle new : PoolState) → WritesTo own old middle → WritesTo own middle new → WritesTo own old new }
 {}
 
 /// What a chain holds depends on its own blocks alone, and it holds as many bytes as it counts.

@@ -1,6 +1,5 @@
 //! The blocks of a pool that one owner has.
 ghost use Rattle.std.specs.Prelude.{◌≡◌, ◌+◌, ◌<◌, ◌≤◌, ◌++◌, length, take, drop};
-ghost use Rattle.block_pool.specs.declared.TheConstants.{LEASE_BLOCKS};
 
 use crate::LEASE_BLOCKS;
 use arrayvec::ArrayVec;
@@ -43,15 +42,7 @@ impl Lease {
         self.blocks.as_slice()
     }
 
-    /// How many blocks there are.
-    pub(crate) fn len(&self) -> u16
-        ensures len { result ≡ length self.now }
-        ensures most { result ≤ LEASE_BLOCKS }
-    {
-        self.blocks.len() as u16
-    }
-
-    /// Ends the lease. The blocks are now those of whoever has their numbers.
+    /// Ends the lease, whose blocks now go by their numbers elsewhere.
     pub(crate) fn end(self) {
         let Lease { blocks: _ } = self;
     }
@@ -71,8 +62,8 @@ impl Lease {
 
     /// This lease's blocks followed by the other's, at most 40 together.
     ///
-    /// Both are to be of one pool, where the blocks of two leases are apart. What is joined is then
-    /// of that pool, as `AreOf` of the two lists together says.
+    /// Both are to be of one pool. The call itself does not need it, so it is no condition here: it
+    /// is what makes the joined lease one of that pool, which every later call on it asks.
     pub fn join(self, other: Lease) -> Lease
         requires { length self + length other ≤ LEASE_BLOCKS }
         ensures { result ≡ self ++ other }

@@ -2,8 +2,8 @@
 //!
 //! All memory is taken when the pool is made. From then on a lease moves block numbers alone, and
 //! a byte goes into a block of its chain: nothing is allocated. Terminal lines and pipes keep
-//! their queues so, as the clists of the 4.3BSD terminal driver did (Leffler, McKusick, Karels and
-//! Quarterman, The Design and Implementation of the 4.3BSD UNIX Operating System, 9.6).
+//! their queues so, as the C-lists of the 4.3BSD terminal driver did (Leffler, McKusick, Karels and
+//! Quarterman, The Design and Implementation of the 4.3BSD UNIX Operating System, chapter 9).
 #![tactic(auto)]
 
 mod chain;

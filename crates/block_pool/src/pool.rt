@@ -1,15 +1,13 @@
 //! The blocks, and which of them are free.
 ghost use Rattle.std.specs.Prelude.{◌≡◌, ℕ, ◌*◌, ◌<◌, ◌≤◌, ◌↔◌, List, [], ◌++◌, length, IfOk, OnErr, IsErr, slice_index, slice_set, vec_capacity, All};
 ghost use Rattle.std.specs.List.{range_with_len};
-ghost use Rattle.block_pool.specs.declared.TheConstants.{BLOCK_BYTES, LEASE_BLOCKS};
 ghost use Rattle.block_pool.specs.Pool.{laid, AreOf, AreAllOf, Lends, WritesTo};
 
 use crate::lease::Lease;
 use crate::{BLOCK_BYTES, LEASE_BLOCKS};
+pub use std::alloc::AllocError as NoMemory;
 use std::alloc::Global;
 use std::marker::Model;
-
-pub use std::alloc::AllocError as NoMemory;
 
 /// Fewer blocks are free than were asked.
 #[derive(Clone, Copy, Debug, PartialEq, Eq)]
@@ -36,7 +34,7 @@ impl Model for Pool {
     ghost invariant = { λ p. IsKept (record { blocks = p.blocks.items; free = p.free.items }) (vec_capacity p.free) };
 }
 
-/// The numbers below `n`, in a list with room for no fewer.
+/// The numbers below `n`.
 #[tactic(auto, using(crate::proofs::Times::range_more))]
 fn numbers_below(alloc: Global, n: u16) -> Result<Vec<u16>, NoMemory>
     ensures numbers { IfOk result (λ numbers. numbers.items ≡ range_with_len 0 n) }

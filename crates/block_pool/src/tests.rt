@@ -28,7 +28,11 @@ fn pop_until(rt: &impl Abort, chain: &mut Chain, pool: &Pool, left: u16, next: u
 {
     let mut next = next;
     while chain.len() > left {
-        assert_eq!(rt; chain.pop_front(pool), Some(next), "a byte is not the chain's own");
+        assert_eq!(rt;
+            chain.pop_front(pool),
+            Some(next),
+            "a byte is not the chain's own"
+        );
         next = next.wrapping_add(1);
     }
     next
@@ -108,8 +112,16 @@ fn check_two_chains(rt: &impl Abort, pool: &mut Pool, front: Lease, rest: Lease)
     assert_eq!(rt; long.len(), 384, "filled again");
 
     // 256 + 128 and 384 + 192 bytes went in, and all came out in order.
-    assert_eq!(rt; pop_until(rt, &mut short, pool, 0, short_first), 128, "after the last");
-    assert_eq!(rt; pop_until(rt, &mut long, pool, 0, long_first), 164, "after the last");
+    assert_eq!(rt;
+        pop_until(rt, &mut short, pool, 0, short_first),
+        128,
+        "after the last"
+    );
+    assert_eq!(rt;
+        pop_until(rt, &mut long, pool, 0, long_first),
+        164,
+        "after the last"
+    );
     pool.give_back(short.into_lease().join(long.into_lease()));
 }
 

@@ -15,6 +15,6 @@ returns g t c = λ leased before.
     let first = c.args.first in
     let reserved = rw c.expect-lease.ensures at c.reserve.ensures.others in
     c.give_back.ensures.others leased (c.take_more.ensures (lease ++ leased) (
-      leased_rearranged c.reserve.new.self (lease ++ (first ++ leased)) (first ++ (lease ++ leased))
-      (λ n. omega (arith, times-append n lease (first ++ leased), times-append n first leased, times-append n first (lease ++ leased), times-append n lease leased))
-      (reserved (first ++ leased) before)))
+    leased_rearranged c.reserve.new.self (lease ++ (first ++ leased)) (first ++ (lease ++ leased))
+    (λ n. omega (arith, times-append n lease (first ++ leased), times-append n first leased, times-append n first (lease ++ leased), times-append n lease leased))
+    (reserved (first ++ leased) before)))

@@ -1,5 +1,4 @@
 use Rattle.std.proofs.Common.{◌≡◌, length}
-use Rattle.block_pool.specs.Pool.{AreOf}
 use Rattle.block_pool.specs.Chain.{room_of}
 use Rattle.block_pool.proofs.tests.fill.Given as goal
 

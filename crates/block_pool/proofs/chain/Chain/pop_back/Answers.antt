@@ -18,7 +18,10 @@ returns-clause-bytes c =
     ∙ ap (λ (byte : ℕ). holds c.args.pool.now left ++ byte ∷ []) (sym c.byte.ensures)
 
 pub returns-clause-none : goal.returns-clause-none
-returns-clause-none c = (λ e. cc, λ e.
-    let count : c.self.inside.count ≡ 0 =
+returns-clause-none c = (
+  λ e. cc,
+  λ e.
+      let count : c.self.inside.count ≡ 0 =
       ap (λ chain. chain.count) c.self.view_is ∙ sym (length-holds c.args.pool.now c.args.self.now) ∙ ap length e in
-    absurd (c.if-self-eq0.false count))
+      absurd (c.if-self-eq0.false count),
+)

@@ -1,4 +1,4 @@
-use Rattle.std.proofs.Common.{◌≡◌, ℕ, ◌*◌, ◌<◌, ◌++◌, length, sym, ap, subst, ◌∙◌, arith, List, ◌∷◌, []}
+use Rattle.std.proofs.Common.{◌≡◌, ◌*◌, ◌<◌, ◌++◌, length, sym, ap, subst, ◌∙◌, arith, ◌∷◌, []}
 use Rattle.block_pool.specs.Pool.{WritesTo}
 use Rattle.block_pool.specs.Chain.{ChainState, holds}
 use Rattle.block_pool.proofs.Circle.{holds_push, holds_apart}

@@ -1,6 +1,5 @@
 use Rattle.std.proofs.Common.{sym, ap, arith}
 use Rattle.std.proofs.lemmas.Grind.{common_steps}
-use Rattle.block_pool.specs.Pool.{Lends}
 use Rattle.block_pool.proofs.Leases.{length_leased, leased_before}
 use Rattle.block_pool.proofs.pool.Pool.give_back.Goals as goal
 

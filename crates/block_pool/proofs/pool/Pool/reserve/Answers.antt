@@ -1,6 +1,5 @@
 use Rattle.std.proofs.Common.{rules, arith}
 use Rattle.std.proofs.lemmas.Grind.{common_steps}
-use Rattle.block_pool.specs.Pool.{Lends}
 use Rattle.block_pool.proofs.Leases.{leased_lent}
 use Rattle.block_pool.proofs.pool.Pool.reserve.Goals as goal
 
