@@ -14,99 +14,51 @@ const SHUT: &str = "user::rwx,group::---,other::---";
 /// Grants everything but to execute.
 const PLAIN: &str = "user::rw-,group::rw-,other::rw-";
 
-/// A caller who is neither the owner nor in the group, by uid and label; a node by its element,
-/// its list, and whether it is a directory; what is wanted, as letters of r, w and x; and the rule
-/// that denies it.
-type Row = (
-    u32,
-    &'static str,
-    &'static str,
-    &'static str,
-    bool,
-    &'static str,
-    Option<Rule>,
-);
+/// A caller who is neither the owner nor in the group.
+const OTHER: u32 = 9;
 
-const ROWS: [Row; 14] = [
+const SUPERUSER: u32 = 0;
+
+/// A caller's label, a node's element, what is wanted, as letters of r, w and x, and the rule that
+/// denies it where the list grants everything.
+const LABELS: [(&str, &str, &str, Option<Rule>); 7] = [
     // Reading down and writing up pass.
-    (9, "mls/10:2(5:2-20:2+3)", "mls/5:2", OPEN, false, "r", None),
-    (9, "mls/5:2(5:2-20:2+3)", "mls/10:2", OPEN, false, "w", None),
-    (
-        9,
-        "mls/5:2(5:2-20:2+3)",
-        "mls/5:2",
-        OPEN,
-        false,
-        "rwx",
-        None,
-    ),
-    (
-        9,
-        "mls/10:2(5:2-20:2+3)",
-        "mls/5:2",
-        OPEN,
-        false,
-        "w",
-        Some(Rule::LabelWrite),
-    ),
-    (
-        9,
-        "mls/5:2(5:2-20:2+3)",
-        "mls/10:2",
-        OPEN,
-        false,
-        "r",
-        Some(Rule::LabelRead),
-    ),
-    (
-        9,
-        "mls/5:2(5:2-20:2+3)",
-        "mls/10:2",
-        OPEN,
-        false,
-        "x",
-        Some(Rule::LabelRead),
-    ),
+    ("mls/10:2(5:2-20:2+3)", "mls/5:2", "r", None),
+    ("mls/5:2(5:2-20:2+3)", "mls/10:2", "w", None),
+    ("mls/5:2(5:2-20:2+3)", "mls/5:2", "rwx", None),
+    // Writing down, reading up and executing what is above do not.
+    ("mls/10:2", "mls/5:2", "w", Some(Rule::LabelWrite)),
+    ("mls/5:2", "mls/10:2", "r", Some(Rule::LabelRead)),
+    ("mls/5:2", "mls/10:2", "x", Some(Rule::LabelRead)),
     // Neither dominates the other: the read is named before the write.
-    (
-        9,
-        "mls/5:2",
-        "mls/5:3",
-        OPEN,
-        false,
-        "rw",
-        Some(Rule::LabelRead),
-    ),
-    // The label comes before the list, and binds a superuser.
-    (
-        9,
-        "mls/5:2",
-        "mls/10:2",
-        SHUT,
-        false,
-        "r",
-        Some(Rule::LabelRead),
-    ),
-    (
-        0,
-        "mls/5:2",
-        "mls/10:2",
-        OPEN,
-        false,
-        "r",
-        Some(Rule::LabelRead),
-    ),
-    // The list, and the search of a directory.
-    (9, "mls/low", "mls/low", SHUT, false, "r", Some(Rule::List)),
-    (9, "mls/low", "mls/low", SHUT, true, "x", Some(Rule::Search)),
-    // A superuser is refused no more than to execute a file without any x.
-    (0, "mls/low", "mls/low", SHUT, false, "rwx", None),
-    (0, "mls/low", "mls/low", PLAIN, false, "x", Some(Rule::List)),
-    (0, "mls/low", "mls/low", PLAIN, true, "x", None),
+    ("mls/5:2", "mls/5:3", "rw", Some(Rule::LabelRead)),
 ];
 
-fn decide(rt: &impl Abort, row: &Row) -> Result<(), Rule> {
-    let (uid, label, element, list, is_dir, want, _) = *row;
+/// A caller's uid, a node's list, whether it is a directory, what is wanted, and the rule that
+/// denies it where the labels are the same.
+const LISTS: [(u32, &str, bool, &str, Option<Rule>); 5] = [
+    (OTHER, SHUT, false, "r", Some(Rule::List)),
+    (OTHER, SHUT, true, "x", Some(Rule::Search)),
+    // A superuser is refused no more than to execute a file without any x.
+    (SUPERUSER, SHUT, false, "rwx", None),
+    (SUPERUSER, PLAIN, false, "x", Some(Rule::List)),
+    (SUPERUSER, PLAIN, true, "x", None),
+];
+
+/// What `may` answers a caller with a uid and a label about a node.
+fn decide(rt: &impl Abort, uid: u32, label: &str, node: &Attrs, want: &str) -> Result<(), Rule> {
+    let subject = read_subject(label.as_bytes()).expect(rt, "a subject");
+    let cred = Cred {
+        uid,
+        gid: 100,
+        groups: ArrayVec::new(),
+    };
+    let wants = |letter: char| want.contains(letter);
+    may(&cred, &subject, node, wants('r'), wants('w'), wants('x'))
+}
+
+/// A node of user 7 and group 7.
+fn node(rt: &impl Abort, element: &str, list: &str, is_dir: bool) -> Attrs {
     let entries = read_list(list.as_bytes()).expect(rt, "a list");
     let node = Attrs {
         element: read_element(element.as_bytes()).expect(rt, "an element"),
@@ -115,26 +67,38 @@ fn decide(rt: &impl Abort, row: &Row) -> Result<(), Rule> {
         list: Acl::new(entries.as_slice()).expect(rt, "a valid list"),
         is_dir,
     };
-    let subject = read_subject(label.as_bytes()).expect(rt, "a subject");
-    let cred = Cred {
-        uid,
-        gid: 100,
-        groups: ArrayVec::new(),
-    };
-    let wants = |letter: char| want.contains(letter);
-    may(
-        &cred,
-        &subject,
-        &node.copy(),
-        wants('r'),
-        wants('w'),
-        wants('x'),
-    )
+    node.copy()
 }
 
 #[test]
-fn label_then_list(rt: HostRuntime) {
-    for (i, row) in ROWS.iter().enumerate() {
-        assert_eq!(rt; decide(&rt, row).err(), row.6, "in row {i}");
+fn labels(rt: HostRuntime) {
+    for (i, (label, element, want, denied)) in LABELS.iter().enumerate() {
+        let node = node(&rt, element, OPEN, false);
+        assert_eq!(rt;
+            decide(&rt, OTHER, label, &node, want).err(),
+            *denied,
+            "in row {i}"
+        );
+    }
+}
+
+#[test]
+fn lists(rt: HostRuntime) {
+    for (i, (uid, list, is_dir, want, denied)) in LISTS.iter().enumerate() {
+        let node = node(&rt, "mls/low", list, *is_dir);
+        assert_eq!(rt;
+            decide(&rt, *uid, "mls/low", &node, want).err(),
+            *denied,
+            "in row {i}"
+        );
+    }
+}
+
+#[test]
+fn label_before_list(rt: HostRuntime) {
+    let above = node(&rt, "mls/10:2", SHUT, false);
+    for uid in [OTHER, SUPERUSER] {
+        let answer = decide(&rt, uid, "mls/5:2", &above, "r");
+        assert_eq!(rt; answer, Err(Rule::LabelRead), "of user {uid}");
     }
 }
