@@ -1,0 +1,4 @@
+mod WordReading
+mod ItemReading
+mod JobReading
+mod WordSpelling

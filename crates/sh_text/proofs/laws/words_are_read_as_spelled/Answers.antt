@@ -1,0 +1,5 @@
+use Rattle.sh_text.proofs.WordSpelling.{word_spelled}
+use Rattle.sh_text.proofs.laws.words_are_read_as_spelled.Goals as goal
+
+pub returns : goal.returns
+returns c = word_spelled
