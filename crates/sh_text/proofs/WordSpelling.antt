@@ -1,7 +1,7 @@
 -- Words are read as they are spelled.
 use Rattle.std.proofs.Common.{◌≡◌, ℕ, Bool, true, false, not, List, [], ◌∷◌, ◌++◌, flat_map, Ok, refl, sym, ap, ◌∙◌, append_assoc}
 use Rattle.std.specs.List.{AllByRecursion}
-use Rattle.sh_text.specs.declared.words.Quoting.TheVariants.{Bare, Quoted, Escaped}
+use Rattle.sh_text.specs.declared.words.Quoting.TheVariants.{Bare, Quoted}
 use Rattle.sh_text.specs.Bytes.{ends_word}
 use Rattle.sh_text.specs.Reading.{word_from, word_at, begins_word}
 use Rattle.sh_text.specs.Grammar.{Part, bare, quoted, escaped, IsNoQuote, IsPart, spelled, meant}

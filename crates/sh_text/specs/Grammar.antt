@@ -1,5 +1,5 @@
 -- Words as a grammar, after POSIX.1, XCU 2.2: ways to write, how each is spelled, and what it means.
-use Rattle.std.specs.Prelude.{◌≡◌, ℕ, false, ◌==◌, List, [], ◌∷◌, ◌++◌, flat_map, codes, ⊤}
+use Rattle.std.specs.Prelude.{◌≡◌, ℕ, false, ◌==◌, List, [], ◌∷◌, ◌++◌, codes, ⊤}
 use Rattle.std.specs.List.{AllByRecursion}
 use Rattle.std.specs.Str.{byte}
 use Rattle.sh_text.specs.Bytes.{ends_word}

@@ -40,6 +40,7 @@ fn shown(alloc: Global, line: &Line) -> Result<Vec<u8>, NoMemory> {
     Ok(text)
 }
 
+/// Lines, and their trees as `shown` writes them.
 const LINES: [(&str, &str); 16] = [
     ("", ""),
     (" \t ", ""),
@@ -72,6 +73,7 @@ fn lines_are_read(rt: HostRuntime) -> Result<(), Fail> {
     Ok(())
 }
 
+/// Texts that are no line, and the places of their faults.
 const FAULTS: [(&str, usize); 20] = [
     ("ls |", 4),
     ("a < > b", 4),
