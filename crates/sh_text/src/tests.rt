@@ -107,3 +107,8 @@ fn faults_have_their_places(rt: HostRuntime) -> Result<(), Fail> {
     }
     Ok(())
 }
+
+#[test]
+fn laws_are_called() {
+    laws::words_are_read_as_spelled();
+}
