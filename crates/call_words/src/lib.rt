@@ -8,6 +8,7 @@
 mod calls;
 mod events;
 mod limits;
+mod node;
 mod rules;
 mod text;
 
@@ -17,5 +18,6 @@ pub use limits::{
     DESCRIPTORS, INPUT_PLACES, LINES, OUTPUT_BYTES, RAW_LINE, SCRIPT_LINE_BYTES, SLOTS,
     TRAIL_EVENTS,
 };
+pub use node::{Kind, Node};
 pub use rules::{Errno, Rule};
 pub use text::{InPlace, PATH_BYTES, PIECE_BYTES, PathText, Piece};

@@ -1,0 +1,246 @@
+-- What each change of the tree leaves, as contracts say it.
+use Rattle.std.proofs.Common.{◌≡◌, ◌≢◌, ◌↔◌, ◌⊎◌, inl, inr, ℕ, zero, suc, ◌+◌, ◌<◌, ◌≤◌, Bool, true, false, cond, List, [], ◌∷◌, ◌++◌, length, take, drop, set, get_or, Option, Some, None, option_map, refl, sym, ap, ◌∙◌, arith, subst, ltb, lt-ltb, length-append}
+use Rattle.std.specs.Prelude.{IsSome, IsTrue, is_some, is_none, position, count_by, sum_by, not, ◌&&◌}
+use Rattle.std.specs.List.{position_or_len}
+use Rattle.std.proofs.lemmas.List.{get_or-set_same, get_or-set_other, length-set, append-nil, take_all}
+use Rattle.std.proofs.Math.ListN.{drop_of_length-le}
+use Rattle.std.proofs.lemmas.List.Quantifiers.{position-Some}
+use Rattle.std.proofs.lemmas.List.Sums.{sum_by-set, sum_by-cons, fails_before_first}
+use Rattle.std.proofs.lemmas.Bool.{cases_eq, cases_lt}
+use Rattle.acl_core.specs.declared.entry.Entry.{Entry as ListEntry}
+use Rattle.access_rule.specs.declared.Attrs.{Attrs}
+use Rattle.access_rule.specs.Tree.{NodeRecord, is_dir, is_dir_record}
+use Rattle.vnode_tree.specs.declared.entry.Entry.{Entry}
+use Rattle.vnode_tree.specs.Nodes.{Named, IsLive, named_at, path_in, path_of, record_of, tree_of, with_node, with_record, with_attrs, with_default, new_node, changed, is_name, count_of, ChangesAt}
+use Rattle.vnode_tree.specs.Links.{entry_at, path_up, record_in, nodes_of, with_entry, entry_with_attrs, entry_with_default}
+use Rattle.vnode_tree.specs.Kept.{IsKept, size_in}
+use Rattle.vnode_tree.proofs.Paths.{AtRoot, Below, path_is as step_of, root_path, same_node_path}
+use Rattle.vnode_tree.proofs.Counts.{live_within, count_with_free, at_most_one}
+use Rattle.vnode_tree.proofs.Trees.{ArePathsApart, Owns, changes_at, at_its_path, FoundAt, found_at}
+use Rattle.vnode_tree.proofs.Tables.{length-nodes, Placed, placed, Listed, listed, paths_apart}
+use Rattle.vnode_tree.proofs.Changes.{Changed, IsLike, changed_entry, made_entry, removed_entry}
+use Rattle.vnode_tree.proofs.Looks.{live_entry, record_is}
+
+-- where no place passes, each fails
+pub all_fail : {X : Type 0} (p : X → Bool) (xs : List X) (k : ℕ) (d : X) → position p xs ≡ None → k < length xs → p (get_or xs k d) ≡ false
+all_fail p xs k d none below =
+    elim (cases_lt (position_or_len p xs) (length xs)) [
+      | inl found ↦ absurd (let no : Some (position_or_len p xs) ≡ None = sym (ap (λ b. cond b (Some (position_or_len p xs)) None) (lt-ltb (position_or_len p xs) (length xs) found)) ∙ none in cc)
+      | inr past ↦ fails_before_first p xs k d (omega arith)
+    ]
+
+-- where each place has a node, there are as many nodes as places
+pub count_all : {X : Type 0} (xs : List (Option X)) → ((k : ℕ) → k < length xs → IsSome (get_or xs k None)) → count_by is_some xs ≡ length xs
+count_all [] all = refl
+count_all {X} (x ∷ xs) all =
+    let one : ◌≡◌ {A = ℕ} (cond (is_some {T = X} x) 1 0) 1 = ap (λ b. cond b 1 0) (all 0 (omega arith)) in
+    omega (arith, sum_by-cons (λ o. cond (is_some {T = X} o) 1 0) x xs, one, count_all xs (λ k below. all (suc k) (omega arith)))
+
+none_is : {X : Type 0} (x : Option X) → is_none x ≡ false → IsSome x
+none_is None e = absurd cc
+none_is (Some x) e = refl
+
+is_nothing : {X : Type 0} (x : Option X) → is_none x ≡ true → x ≡ None
+is_nothing None e = refl
+is_nothing (Some x) e = absurd cc
+
+-- a table without a free place is full
+pub full_table : (entries : List (Option Entry)) (nodes : List (Option Named)) → nodes_of entries ≡ nodes → IsKept entries → position is_none entries ≡ None → count_of nodes ≡ 1024
+full_table entries nodes view kept none =
+    let all : (k : ℕ) → k < length nodes → IsSome (named_at nodes k) = λ k below.
+    let inside : k < length entries = omega (arith, length-nodes entries, ap (λ (ns : List (Option Named)). length ns) view) in
+    let some : IsSome (entry_at entries k) = none_is (entry_at entries k) (all_fail is_none entries k None none inside) in
+    elim (entry_at entries k) as (λ o. entry_at entries k ≡ o → IsSome o → IsSome (named_at nodes k)) [
+      | None ↦ λ at live. absurd (let no : false ≡ true = live in cc)
+      | Some entry ↦ λ at live. subst (λ o. IsSome o) (sym (ap (λ (ns : List (Option Named)). named_at ns k) (sym view) ∙ (placed entries k entry kept at).named)) refl
+    ] refl some in
+    omega (arith, count_all nodes all, length-nodes entries, ap (λ (ns : List (Option Named)). length ns) view, kept.size)
+
+-- a change of one node, as contracts say it
+pub record Recorded (change : NodeRecord → NodeRecord) (nodes : List (Option Named)) (n : ℕ) (others : List (Option Entry)) : Type 0 where
+  pub kept : IsKept others
+  pub set : nodes_of others ≡ with_record change nodes n
+  pub changes : ChangesAt (path_of nodes n) (option_map change (record_of nodes n)) nodes (nodes_of others)
+
+owns_its_path : (entries : List (Option Entry)) (n : ℕ) (named : Named) → IsKept entries → named_at (nodes_of entries) n ≡ Some named → Owns (nodes_of entries) n named.path
+owns_its_path entries n named kept at = record {
+  here = λ a there. let same : a ≡ named = let both : Some a ≡ Some named = sym there ∙ at in cc in ap (λ (x : Named). x.path) same;
+  others = λ m b there same. (paths_apart entries kept).apart m n b named there at same;
+}
+
+recorded_here : (change : NodeRecord → NodeRecord) (entries : List (Option Entry)) (n : ℕ) (entry like : Entry) → IsKept entries → entry_at entries n ≡ Some entry → IsLike entry like → record_in like ≡ change (record_in entry) → sum_by size_in (set entries n (Some like)) ≤ 4194304 → Recorded change (nodes_of entries) n (set entries n (Some like))
+recorded_here change entries n entry like kept at is changes fits =
+    let there = placed entries n entry kept at in
+    let done = changed_entry entries n entry like there.path kept at there.up is fits in
+    let value : Option NodeRecord = Some (record_in like) in
+    let slot_is : ◌≡◌ {A = Option Named} (Some (record { path = there.path; node = record_in like })) (option_map (changed change) (named_at (nodes_of entries) n)) = ap (λ (r : NodeRecord). Some (record { path = there.path; node = r })) changes ∙ sym (ap (option_map (changed change)) there.named) in
+    let whole : ChangesAt there.path (Some (record_in like)) (nodes_of entries) (set (nodes_of entries) n (Some (record { path = there.path; node = record_in like }))) =
+    changes_at (nodes_of entries) n there.path (Some (record_in like)) (live_within (nodes_of entries) n (record { path = there.path; node = record_in entry }) there.named) (owns_its_path entries n (record { path = there.path; node = record_in entry }) kept there.named) in
+    let path_is : path_of (nodes_of entries) n ≡ there.path = ap (λ (o : Option Named). path_in o) there.named in
+    let now_is : option_map change (record_of (nodes_of entries) n) ≡ Some (record_in like) = ap (λ (o : Option Named). option_map change (option_map (λ (x : Named). x.node) o)) there.named ∙ ap (λ (r : NodeRecord). Some r) (sym changes) in
+    let same_nodes : set (nodes_of entries) n (Some (record { path = there.path; node = record_in like })) ≡ nodes_of (set entries n (Some like)) = sym done.nodes in
+    record {
+      kept = done.kept;
+      set = done.nodes ∙ ap (set (nodes_of entries) n) slot_is;
+      changes = rw (path_is, now_is) (subst (ChangesAt there.path (Some (record_in like)) (nodes_of entries)) same_nodes whole);
+    }
+
+pub recorded : (change : NodeRecord → NodeRecord) (entries : List (Option Entry)) (nodes : List (Option Named)) (n : ℕ) (entry like : Entry) → nodes_of entries ≡ nodes → IsKept entries → entry_at entries n ≡ Some entry → IsLike entry like → record_in like ≡ change (record_in entry) → sum_by size_in (set entries n (Some like)) ≤ 4194304 → Recorded change nodes n (set entries n (Some like))
+recorded change entries nodes n entry like view kept at is changes fits = subst (λ ns. Recorded change ns n (set entries n (Some like))) view (recorded_here change entries n entry like kept at is changes fits)
+
+-- a node of the same size needs no more room
+pub same_size : (entries : List (Option Entry)) (n : ℕ) (entry like : Entry) → IsKept entries → entry_at entries n ≡ Some entry → like.contents ≡ entry.contents → sum_by size_in (set entries n (Some like)) ≤ 4194304
+same_size entries n entry like kept at same =
+    let sums : sum_by size_in (set entries n (Some like)) + size_in (get_or entries n None) ≡ sum_by size_in entries + size_in (Some like) = sum_by-set size_in entries n (Some like) None (live_within entries n entry at) in
+    omega (arith, sums, kept.space, ap size_in at, ap (λ (xs : List ℕ). length xs) same)
+
+some_entry : {X : Type 0} (x : Option X) → IsSome x → (y : X) × (x ≡ Some y)
+some_entry None some = absurd (let no : false ≡ true = some in cc)
+some_entry (Some y) some = (y, refl)
+
+-- a change of an entry that keeps its place, its kind and its size
+pub recorded_entry : (change : NodeRecord → NodeRecord) (f : Entry → Entry) (entries : List (Option Entry)) (nodes : List (Option Named)) (n : ℕ) → nodes_of entries ≡ nodes → IsKept entries → IsLive nodes n → ((entry : Entry) → entry_at entries n ≡ Some entry → IsLike entry (f entry) × (record_in (f entry) ≡ change (record_in entry)) × ((f entry).contents ≡ entry.contents)) → Recorded change nodes n (with_entry f entries n)
+recorded_entry change f entries nodes n view kept live fits =
+    let there = some_entry (entry_at entries n) (live_entry entries nodes n view live) in
+    let is = fits there.0 there.1 in
+    let done = recorded change entries nodes n there.0 (f there.0) view kept there.1 is.0 is.1 (same_size entries n there.0 (f there.0) kept there.1 is.2) in
+    subst (λ (x : Option Entry). Recorded change nodes n (set entries n x)) (sym (ap (option_map f) there.1)) done
+
+pub attrs_set : (attrs : Attrs) (entries : List (Option Entry)) (nodes : List (Option Named)) (n : ℕ) → nodes_of entries ≡ nodes → IsKept entries → IsLive nodes n → attrs.is_dir ≡ is_dir_record (record_of nodes n) → Recorded (with_attrs attrs) nodes n (with_entry (entry_with_attrs attrs) entries n)
+attrs_set attrs entries nodes n view kept live kind = recorded_entry (with_attrs attrs) (entry_with_attrs attrs) entries nodes n view kept live (λ entry at.
+    let like : IsLike entry (entry_with_attrs attrs entry) = record { dir = refl; name = refl; kind = refl; is_dir = kind ∙ ap is_dir_record (record_is entries nodes n entry view kept at) } in
+    (like, refl, refl))
+
+pub default_set : (list : Option (List ListEntry)) (entries : List (Option Entry)) (nodes : List (Option Named)) (n : ℕ) → nodes_of entries ≡ nodes → IsKept entries → IsLive nodes n → Recorded (with_default list) nodes n (with_entry (entry_with_default list) entries n)
+default_set list entries nodes n view kept live = recorded_entry (with_default list) (entry_with_default list) entries nodes n view kept live (λ entry at.
+    let like : IsLike entry (entry_with_default list entry) = record { dir = refl; name = refl; kind = refl; is_dir = kept.kinds n entry at } in
+    (like, refl, refl))
+
+-- a node that is taken away, as contracts say it
+pub record Removed (nodes : List (Option Named)) (n : ℕ) (others : List (Option Entry)) : Type 0 where
+  pub kept : IsKept others
+  pub gone : nodes_of others ≡ with_node nodes n None
+  pub changes : ChangesAt (path_of nodes n) None nodes (nodes_of others)
+
+removed_here : (entries : List (Option Entry)) (n : ℕ) → IsKept entries → IsLive (nodes_of entries) n → ((name : List ℕ) → tree_of (nodes_of entries) (path_of (nodes_of entries) n ++ name ∷ []) ≡ None) → path_of (nodes_of entries) n ≢ [] → Removed (nodes_of entries) n (set entries n None)
+removed_here entries n kept live leaf below =
+    let here = some_entry (entry_at entries n) (live_entry entries (nodes_of entries) n refl live) in
+    let there = placed entries n here.0 kept here.1 in
+    let path_is : path_of (nodes_of entries) n ≡ there.path = ap (λ (o : Option Named). path_in o) there.named in
+    let other : n ≢ 0 = λ same.
+    let root : path_up (suc 1023) entries n ≡ Some [] = subst (λ i. path_up (suc 1023) entries i ≡ Some []) (sym same) (root_path 1023 entries here.0 (subst (λ i. entry_at entries i ≡ Some here.0) same here.1)) in
+    below (path_is ∙ same_node_path (length entries) (suc 1023) entries n there.path [] there.up root) in
+    let alone : (m : ℕ) (e : Entry) → entry_at entries m ≡ Some e → m ≢ 0 → e.dir ≢ n = λ m e at apart same.
+    let is = placed entries m e kept at in
+    elim (step_of (length entries) entries m is.path is.up) [
+      | inl root ↦ apart root.here
+      | inr down ↦
+          let one : down.entry ≡ e = let both : Some down.entry ≡ Some e = sym down.at ∙ at in cc in
+          let dir_up : path_up down.more entries n ≡ Some down.above = subst (λ (d : ℕ). path_up down.more entries d ≡ Some down.above) (ap (λ (x : Entry). x.dir) one ∙ same) down.up in
+          let above_is : down.above ≡ path_of (nodes_of entries) n = same_node_path down.more (length entries) entries n down.above there.path dir_up there.up ∙ sym path_is in
+          let some : tree_of (nodes_of entries) is.path ≡ Some (record_in e) = at_its_path (nodes_of entries) m (record { path = is.path; node = record_in e }) (paths_apart entries kept) is.named in
+          let none : tree_of (nodes_of entries) is.path ≡ None = ap (tree_of (nodes_of entries)) (down.whole ∙ ap (λ (q : List (List ℕ)). q ++ (down.entry).name ∷ []) above_is) ∙ leaf (down.entry).name in
+          let no : Some (record_in e) ≡ None = sym some ∙ none in
+          cc
+    ] in
+    let done = removed_entry entries n here.0 kept here.1 other alone in
+    let whole : ChangesAt there.path None (nodes_of entries) (set (nodes_of entries) n None) =
+    changes_at (nodes_of entries) n there.path None (live_within (nodes_of entries) n (record { path = there.path; node = record_in here.0 }) there.named) (owns_its_path entries n (record { path = there.path; node = record_in here.0 }) kept there.named) in
+    let same_nodes : set (nodes_of entries) n None ≡ nodes_of (set entries n None) = sym done.nodes in
+    record {
+      kept = done.kept;
+      gone = done.nodes;
+      changes = rw path_is (subst (ChangesAt there.path None (nodes_of entries)) same_nodes whole);
+    }
+
+pub removed : (entries : List (Option Entry)) (nodes : List (Option Named)) (n : ℕ) → nodes_of entries ≡ nodes → IsKept entries → IsLive nodes n → ((name : List ℕ) → tree_of nodes (path_of nodes n ++ name ∷ []) ≡ None) → path_of nodes n ≢ [] → Removed nodes n (set entries n None)
+removed entries nodes n view kept live leaf below =
+    subst (λ (ns : List (Option Named)). IsLive ns n → ((name : List ℕ) → tree_of ns (path_of ns n ++ name ∷ []) ≡ None) → path_of ns n ≢ [] → Removed ns n (set entries n None)) view (removed_here entries n kept) live leaf below
+
+-- a node that is made, as contracts say it
+pub record Made (nodes : List (Option Named)) (n : ℕ) (path : List (List ℕ)) (node : NodeRecord) (others : List (Option Entry)) : Type 0 where
+  pub kept : IsKept others
+  pub free : named_at nodes n ≡ None
+  pub made : nodes_of others ≡ with_node nodes n (Some (record { path = path; node = node }))
+  pub live : IsLive (nodes_of others) n
+  pub changes : ChangesAt path (Some node) nodes (nodes_of others)
+  pub room : count_of nodes < 1024
+
+name_some : (name : List ℕ) → IsTrue (is_name name) → 0 < length name
+name_some [] e = absurd (let no : false ≡ true = e in cc)
+name_some (b ∷ name) e = omega arith
+
+free_named : (entries : List (Option Entry)) (n : ℕ) → entry_at entries n ≡ None → named_at (nodes_of entries) n ≡ None
+free_named entries n free =
+    elim (named_at (nodes_of entries) n) as (λ o. named_at (nodes_of entries) n ≡ o → o ≡ None) [
+      | None ↦ λ e. refl
+      | Some named ↦ λ e. let is = listed entries n named e in let no : None ≡ Some is.entry = sym free ∙ is.at in cc
+    ] refl
+
+dir_is_live : (o : Option Named) → IsTrue (is_dir_record (option_map (λ (x : Named). x.node) o)) → IsSome o
+dir_is_live None e = absurd (let no : false ≡ true = e in cc)
+dir_is_live (Some named) e = refl
+
+made_here : (entries : List (Option Entry)) (n : ℕ) (entry : Entry) → IsKept entries → position is_none entries ≡ Some n → IsTrue (is_dir_record (record_of (nodes_of entries) entry.dir)) → IsTrue (is_name entry.name) → entry.attrs.is_dir ≡ is_dir entry.kind → entry.contents ≡ [] → tree_of (nodes_of entries) (path_of (nodes_of entries) entry.dir ++ entry.name ∷ []) ≡ None
+    → Made (nodes_of entries) n (path_of (nodes_of entries) entry.dir ++ entry.name ∷ []) (record_in entry) (set entries n (Some entry))
+made_here entries n entry kept found dir named dirs empty none =
+    let at = position-Some is_none entries n None found in
+    let free : entry_at entries n ≡ None = is_nothing (entry_at entries n) at.1 in
+    let dir_live : IsLive (nodes_of entries) entry.dir = dir_is_live (named_at (nodes_of entries) entry.dir) dir in
+    let above = some_entry (entry_at entries entry.dir) (live_entry entries (nodes_of entries) entry.dir refl dir_live) in
+    let there = placed entries entry.dir above.0 kept above.1 in
+    let path_is : path_of (nodes_of entries) entry.dir ≡ there.path = ap (λ (o : Option Named). path_in o) there.named in
+    let path : List (List ℕ) = there.path ++ entry.name ∷ [] in
+    let absent : tree_of (nodes_of entries) (there.path ++ entry.name ∷ []) ≡ None = subst (λ (q : List (List ℕ)). tree_of (nodes_of entries) (q ++ entry.name ∷ []) ≡ None) path_is none in
+    let done = made_entry entries n entry there.path kept at.0 free there.up (name_some entry.name named) dirs empty absent in
+    let free_node : named_at (nodes_of entries) n ≡ None = free_named entries n free in
+    let inside : n < length (nodes_of entries) = omega (arith, length-nodes entries, at.0) in
+    let owns : Owns (nodes_of entries) n (there.path ++ entry.name ∷ []) = record {
+      here = λ a is. absurd (let no : None ≡ Some a = sym free_node ∙ is in cc);
+      others = λ m b is same. absurd (
+          let some : tree_of (nodes_of entries) b.path ≡ Some b.node = at_its_path (nodes_of entries) m b (paths_apart entries kept) is in
+          let no : None ≡ Some b.node = sym absent ∙ ap (tree_of (nodes_of entries)) (sym same) ∙ some in
+          cc);
+    } in
+    let whole : ChangesAt (there.path ++ entry.name ∷ []) (Some (record_in entry)) (nodes_of entries) (set (nodes_of entries) n (Some (record { path = there.path ++ entry.name ∷ []; node = record_in entry }))) =
+    changes_at (nodes_of entries) n (there.path ++ entry.name ∷ []) (Some (record_in entry)) inside owns in
+    let same_nodes : set (nodes_of entries) n (Some (record { path = there.path ++ entry.name ∷ []; node = record_in entry })) ≡ nodes_of (set entries n (Some entry)) = sym done.nodes in
+    let put : named_at (nodes_of (set entries n (Some entry))) n ≡ Some (record { path = there.path ++ entry.name ∷ []; node = record_in entry }) = ap (λ (ns : List (Option Named)). named_at ns n) done.nodes ∙ get_or-set_same (nodes_of entries) n (Some (record { path = there.path ++ entry.name ∷ []; node = record_in entry })) None inside in
+    record {
+      kept = done.kept;
+      free = free_node;
+      made = rw path_is done.nodes;
+      live = subst (λ o. IsSome o) (sym put) refl;
+      changes = rw path_is (subst (ChangesAt (there.path ++ entry.name ∷ []) (Some (record_in entry)) (nodes_of entries)) same_nodes whole);
+      room = omega (arith, count_with_free (nodes_of entries) n inside free_node, length-nodes entries, kept.size);
+    }
+
+pub made : (entries : List (Option Entry)) (nodes : List (Option Named)) (n : ℕ) (entry : Entry) → nodes_of entries ≡ nodes → IsKept entries → position is_none entries ≡ Some n → IsTrue (is_dir_record (record_of nodes entry.dir)) → IsTrue (is_name entry.name) → entry.attrs.is_dir ≡ is_dir entry.kind → entry.contents ≡ [] → tree_of nodes (path_of nodes entry.dir ++ entry.name ∷ []) ≡ None
+    → Made nodes n (path_of nodes entry.dir ++ entry.name ∷ []) (record_in entry) (set entries n (Some entry))
+made entries nodes n entry view kept found dir named dirs empty none =
+    subst (λ (ns : List (Option Named)). IsTrue (is_dir_record (record_of ns entry.dir)) → tree_of ns (path_of ns entry.dir ++ entry.name ∷ []) ≡ None → Made ns n (path_of ns entry.dir ++ entry.name ∷ []) (record_in entry) (set entries n (Some entry))) view
+        (λ d m. made_here entries n entry kept found d named dirs empty m) dir none
+
+-- a vector after all of it was written
+pub all_written : {X : Type 0} (size : ℕ) (xs ys : List X) → size ≡ length ys → length xs ≡ length ys → take size (xs ++ drop (length xs) ys) ≡ xs
+all_written size xs ys whole same =
+    let nothing : drop (length xs) ys ≡ [] = drop_of_length-le ys (omega (arith, same)) in
+    rw nothing (ap (take size) (append-nil xs) ∙ take_all size xs (omega (arith, whole, same)))
+
+-- a node that is live stands within the table
+pub live_inside : (entries : List (Option Entry)) (nodes : List (Option Named)) (n : ℕ) → nodes_of entries ≡ nodes → IsLive nodes n → n < length entries
+live_inside entries nodes n view live = let there = some_entry (entry_at entries n) (live_entry entries nodes n view live) in live_within entries n there.0 there.1
+
+-- the table after one of its entries was written in place
+pub entry_written : (f : Entry → Entry) (size : ℕ) (entries there new : List (Option Entry)) (n : ℕ) → size ≡ length entries → there ≡ entries → new ≡ with_entry f there n → take size (new ++ drop (length new) entries) ≡ with_entry f entries n
+entry_written f size entries there new n whole same is =
+    let new_is : new ≡ with_entry f entries n = is ∙ ap (λ (es : List (Option Entry)). with_entry f es n) same in
+    all_written size new entries whole (ap (λ (es : List (Option Entry)). length es) new_is ∙ length-set entries n (option_map f (entry_at entries n))) ∙ new_is
+
+-- a node is made in the first free place
+pub made_call : (entries there : List (Option Entry)) (nodes : List (Option Named)) (n : ℕ) (entry : Entry) (dir : ℕ) (name : List ℕ) → nodes_of entries ≡ nodes → IsKept entries → there ≡ entries → Some n ≡ position is_none there → entry.dir ≡ dir → entry.name ≡ name → IsTrue (is_dir_record (record_of nodes dir)) → IsTrue (is_name name) → entry.attrs.is_dir ≡ is_dir entry.kind → entry.contents ≡ [] → tree_of nodes (path_of nodes dir ++ name ∷ []) ≡ None
+    → Made nodes n (path_of nodes dir ++ name ∷ []) (new_node entry.kind entry.attrs entry.default) (set entries n (Some entry))
+made_call entries there nodes n entry dir name view kept same found dir_is name_is is_a_dir named dirs empty none =
+    let done = made entries nodes n entry view kept (ap (position is_none) (sym same) ∙ sym found) (rw dir_is is_a_dir) (rw name_is named) dirs empty (rw (dir_is, name_is) none) in
+    let node_is : record_in entry ≡ new_node entry.kind entry.attrs entry.default = ap (λ (bytes : List ℕ). record { kind = entry.kind; attrs = entry.attrs; default = entry.default; contents = bytes }) empty in
+    rw (← dir_is, ← name_is, ← node_is) done

@@ -1,0 +1,12 @@
+use Rattle.vnode_tree.specs.Links.{entry_with_default}
+use Rattle.vnode_tree.proofs.Calls.{default_set, entry_written}
+use Rattle.vnode_tree.proofs.tree.Tree.set_default.Goals as goal
+
+pub invariant_of-self : goal.invariant_of-self
+invariant_of-self c = rw (entry_written (entry_with_default c.args.list) c.self.inside.entries.len c.self.inside.entries.items c.as_mut_slice.result.now c.set_default.new.entries c.args.node c.self.inside.entries.ok.0 c.as_mut_slice.ensures.value c.set_default.ensures) (default_set c.args.list c.self.inside.entries.items c.args.self.now c.args.node c.self.view_is c.self.invariant c.requires.live).kept
+
+pub returns-clause-set : goal.returns-clause-set
+returns-clause-set c = rw (entry_written (entry_with_default c.args.list) c.self.inside.entries.len c.self.inside.entries.items c.as_mut_slice.result.now c.set_default.new.entries c.args.node c.self.inside.entries.ok.0 c.as_mut_slice.ensures.value c.set_default.ensures) (default_set c.args.list c.self.inside.entries.items c.args.self.now c.args.node c.self.view_is c.self.invariant c.requires.live).set
+
+pub returns-clause-changes : goal.returns-clause-changes
+returns-clause-changes c = rw (entry_written (entry_with_default c.args.list) c.self.inside.entries.len c.self.inside.entries.items c.as_mut_slice.result.now c.set_default.new.entries c.args.node c.self.inside.entries.ok.0 c.as_mut_slice.ensures.value c.set_default.ensures) (default_set c.args.list c.self.inside.entries.items c.args.self.now c.args.node c.self.view_is c.self.invariant c.requires.live).changes

@@ -1,0 +1,28 @@
+-- What files hold, after read(2) and write(2).
+use Rattle.std.specs.Prelude.{ℕ, ◌+◌, ◌-◌, ◌==◌, List, ◌++◌, length, take, drop, replicate, Option, Some, None, sum_by, if◌then◌else◌}
+use Rattle.vnode_tree.specs.Nodes.{Named, with_record, with_contents}
+use Rattle.access_rule.specs.Tree.{NodeRecord}
+
+-- at most so many bytes from a place on
+abbrev pub bytes_at : ℕ → ℕ → List ℕ → List ℕ
+bytes_at at max bytes = take max (drop at bytes)
+
+-- bytes up to a place, of which those past the end are 0
+abbrev pub filled : ℕ → List ℕ → List ℕ
+filled at bytes = take at (bytes ++ replicate (at - length bytes) 0)
+
+-- after a write at a place; a write of no bytes changes nothing
+unfoldable pub written : List ℕ → ℕ → List ℕ → List ℕ
+written old at bytes = if length bytes == 0 then old else filled at old ++ bytes ++ drop (at + length bytes) old
+
+-- a node after a write
+abbrev pub with_written : ℕ → List ℕ → NodeRecord → NodeRecord
+with_written at bytes node = with_contents (written node.contents at bytes) node
+
+abbrev pub size_of : Option Named → ℕ
+size_of None = 0
+size_of (Some named) = length named.node.contents
+
+-- how many bytes all files hold
+abbrev pub space_of : List (Option Named) → ℕ
+space_of nodes = sum_by size_of nodes

@@ -1,0 +1,59 @@
+-- How the table keeps the tree: each node names its directory.
+use Rattle.std.specs.Prelude.{ℕ, Bool, false, ◌&&◌, zero, suc, ◌==◌, List, [], ◌∷◌, ◌++◌, length, map, Option, Some, None, slice_index_or, slice_set, if◌then◌else◌, option_map}
+use Rattle.std.specs.List.{range_with_len}
+use Rattle.std.specs.Str.{bytes_eq}
+use Rattle.acl_core.specs.declared.entry.Entry.{Entry as ListEntry}
+use Rattle.access_rule.specs.declared.Attrs.{Attrs}
+use Rattle.access_rule.specs.Tree.{NodeRecord}
+use Rattle.vnode_tree.specs.declared.entry.Entry.{Entry}
+use Rattle.vnode_tree.specs.Nodes.{Named}
+
+abbrev pub entry_at : List (Option Entry) → ℕ → Option Entry
+entry_at entries number = slice_index_or entries number None
+
+-- the directory that an entry names
+abbrev pub dir_in : Option Entry → ℕ
+dir_in None = 0
+dir_in (Some entry) = entry.dir
+
+-- a path from the path of its directory; the root, of number 0, has the empty one
+abbrev pub path_above : Option Entry → ℕ → Option (List (List ℕ)) → Option (List (List ℕ))
+path_above None number above = None
+path_above (Some entry) number above = if number == 0 then Some [] else option_map (λ path. path ++ entry.name ∷ []) above
+
+-- the path of a node that is below at most so many others, found from directory to directory
+unfoldable pub path_up : ℕ → List (Option Entry) → ℕ → Option (List (List ℕ))
+path_up zero entries number = None
+path_up (suc more) entries number = path_above (entry_at entries number) number (path_up more entries (dir_in (entry_at entries number)))
+
+-- what a node is
+abbrev pub record_in : Entry → NodeRecord
+record_in entry = record { kind = entry.kind; attrs = entry.attrs; default = entry.default; contents = entry.contents }
+
+abbrev pub named_in : Option Entry → Option (List (List ℕ)) → Option Named
+named_in None path = None
+named_in (Some entry) None = None
+named_in (Some entry) (Some path) = Some (record { path = path; node = record_in entry })
+
+-- a node with its path
+unfoldable pub named_of : List (Option Entry) → ℕ → Option Named
+named_of entries number = named_in (entry_at entries number) (path_up (length entries) entries number)
+
+-- all nodes
+unfoldable pub nodes_of : List (Option Entry) → List (Option Named)
+nodes_of entries = map (named_of entries) (range_with_len 0 (length entries))
+
+-- an entry is of that name in that directory
+abbrev pub is_child : ℕ → List ℕ → Option Entry → Bool
+is_child dir name None = false
+is_child dir name (Some entry) = entry.dir == dir && bytes_eq entry.name name
+
+-- the table with a change of an entry, where there is one
+abbrev pub with_entry : (Entry → Entry) → List (Option Entry) → ℕ → List (Option Entry)
+with_entry change entries number = slice_set entries number (option_map change (entry_at entries number))
+
+abbrev pub entry_with_attrs : Attrs → Entry → Entry
+entry_with_attrs attrs entry = record entry { attrs = attrs }
+
+abbrev pub entry_with_default : Option (List ListEntry) → Entry → Entry
+entry_with_default list entry = record entry { default = list }

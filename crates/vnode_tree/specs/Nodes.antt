@@ -1,0 +1,83 @@
+-- What contracts see of a tree: its nodes by their names of one number, each with its path and with what it is. The finite
+-- map from paths to nodes is read off it.
+use Rattle.std.specs.Prelude.{◌≡◌, ℕ, Bool, true, false, ◌&&◌, List, [], ◌∷◌, ◌++◌, Option, Some, None, IsSome, is_some, count_by, slice_index_or, slice_set, not, if◌then◌else◌, option_map}
+use Rattle.std.specs.List.{list_all}
+use Rattle.std.specs.Str.{bytes_eq}
+use Rattle.acl_core.specs.declared.entry.Entry.{Entry}
+use Rattle.call_words.specs.declared.node.Kind.{Kind}
+use Rattle.access_rule.specs.declared.Attrs.{Attrs}
+use Rattle.access_rule.specs.Tree.{NodeRecord, Tree, is_skipped, is_parent, is_slash}
+
+-- a node: its path, which is the list of names from the root down to it, and what it is
+pub record Named : Type 0 where
+  pub path : List (List ℕ)
+  pub node : NodeRecord
+
+-- what there is of a node of a number, if there is such a node
+abbrev pub named_at : List (Option Named) → ℕ → Option Named
+named_at nodes number = slice_index_or nodes number None
+
+-- there is a node of the number
+abbrev pub IsLive : List (Option Named) → ℕ → Type 0
+IsLive nodes number = IsSome (named_at nodes number)
+
+abbrev pub path_in : Option Named → List (List ℕ)
+path_in None = []
+path_in (Some named) = named.path
+
+-- the path of a node
+abbrev pub path_of : List (Option Named) → ℕ → List (List ℕ)
+path_of nodes number = path_in (named_at nodes number)
+
+-- what a node is
+abbrev pub record_of : List (Option Named) → ℕ → Option NodeRecord
+record_of nodes number = option_map (λ named. named.node) (named_at nodes number)
+
+abbrev pub same_path : List (List ℕ) → List (List ℕ) → Bool
+same_path [] [] = true
+same_path [] (y ∷ ys) = false
+same_path (x ∷ xs) [] = false
+same_path (x ∷ xs) (y ∷ ys) = bytes_eq x y && same_path xs ys
+
+-- what is at a path
+unfoldable pub tree_of : List (Option Named) → Tree
+tree_of [] path = None
+tree_of (None ∷ nodes) path = tree_of nodes path
+tree_of (Some named ∷ nodes) path = if same_path path named.path then Some named.node else tree_of nodes path
+
+-- the nodes with another in the place of a number, or with none
+abbrev pub with_node : List (Option Named) → ℕ → Option Named → List (Option Named)
+with_node nodes number named = slice_set nodes number named
+
+-- a node at the same path with a change of what it is
+abbrev pub changed : (NodeRecord → NodeRecord) → Named → Named
+changed change named = record { path = named.path; node = change named.node }
+
+-- the nodes with a change of what one of them is
+abbrev pub with_record : (NodeRecord → NodeRecord) → List (Option Named) → ℕ → List (Option Named)
+with_record change nodes number = with_node nodes number (option_map (changed change) (named_at nodes number))
+
+abbrev pub with_attrs : Attrs → NodeRecord → NodeRecord
+with_attrs attrs node = record node { attrs = attrs }
+
+abbrev pub with_default : Option (List Entry) → NodeRecord → NodeRecord
+with_default list node = record node { default = list }
+
+abbrev pub with_contents : List ℕ → NodeRecord → NodeRecord
+with_contents bytes node = record node { contents = bytes }
+
+-- a new node, which holds nothing
+abbrev pub new_node : Kind → Attrs → Option (List Entry) → NodeRecord
+new_node kind attrs default = record { kind = kind; attrs = attrs; default = default; contents = [] }
+
+-- a name that a node may have: no dots alone, and no slash
+abbrev pub is_name : List ℕ → Bool
+is_name name = not (is_skipped name) && not (is_parent name) && list_all (λ b. not (is_slash b)) name
+
+-- how many nodes there are
+abbrev pub count_of : List (Option Named) → ℕ
+count_of nodes = count_by is_some nodes
+
+-- what is at one path has changed, and what is at every other path has not
+pub record ChangesAt (path : List (List ℕ)) (now : Option NodeRecord) (old new : List (Option Named)) : Type 0 where
+  pub only : (other : List (List ℕ)) → tree_of new other ≡ (if same_path other path then now else tree_of old other)

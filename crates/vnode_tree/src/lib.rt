@@ -1,0 +1,24 @@
+//! The file tree in memory: nodes with their attributes and contents, and the walk of a path.
+//!
+//! Walks are those of path_resolution in POSIX.1, 4.13; the nodes that a boot makes are this project's own. The table of
+//! nodes is made at boot, with room for all of them: after that only a write to a file can want memory.
+#![tactic(auto)]
+
+mod contents;
+mod entry;
+mod table;
+mod tree;
+
+pub use call_words::{Kind, Node};
+pub use entry::Name255;
+pub use std::alloc::AllocError as NoMemory;
+pub use tree::{Tree, TreeFull};
+
+/// How many nodes a tree has at most, the root among them.
+pub const NODES: usize = 1024;
+
+/// How many bytes the contents of all files have at most.
+pub const FILE_SPACE: usize = 4_194_304;
+
+/// How many bytes the name of a node has at most.
+pub const NAME_BYTES: usize = 255;

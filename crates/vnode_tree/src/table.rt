@@ -1,0 +1,70 @@
+//! Places of the table of nodes.
+ghost use Rattle.std.specs.Prelude.{◌≡◌, ℕ, List, IsSome, Some, None, is_none, position, sum_by, slice_index_or, slice_set, ◌≤◌};
+ghost use Rattle.vnode_tree.specs.Links.{entry_at, is_child, with_entry, entry_with_attrs, entry_with_default};
+ghost use Rattle.vnode_tree.specs.Kept.{size_in};
+
+use crate::entry::Entry;
+use access_rule::Attrs;
+use acl_core::Acl;
+use call_words::Node;
+
+/// The entry of a node that is there.
+pub(crate) fn entry_of(entries: &[Option<Entry>], node: Node) -> &Entry
+    requires { IsSome (entry_at entries.now node) }
+    ensures { entry_at entries.now node ≡ Some result.now }
+{
+    match &entries[usize::from(node.number())] {
+        Some(entry) => entry,
+        None => unreachable!(),
+    }
+}
+
+/// The first place without a node.
+pub(crate) fn free_place(entries: &[Option<Entry>]) -> Option<usize>
+    ensures { result ≡ position is_none entries.now }
+{
+    entries.iter().position(|entry| entry.is_none())
+}
+
+/// Whether an entry is of that name in that directory.
+fn is_child(entry: &Option<Entry>, dir: u16, name: &[u8]) -> bool
+    ensures { result ≡ is_child dir name.now entry.now }
+{
+    match entry {
+        Some(entry) => entry.dir == dir && entry.name.as_slice() == name,
+        None => false,
+    }
+}
+
+/// The place of the node of a name in a directory, if it has one.
+pub(crate) fn child_place(entries: &[Option<Entry>], dir: u16, name: &[u8]) -> Option<usize>
+    ensures { result ≡ position (is_child dir name.now) entries.now }
+{
+    entries.iter().position(|entry| is_child(entry, dir, name))
+}
+
+/// Changes what access to a node depends on, where the node is there.
+pub(crate) fn set_attrs(entries: &mut [Option<Entry>], node: Node, attrs: Attrs)
+    ensures { entries.new ≡ with_entry (entry_with_attrs attrs) entries.old node }
+{
+    let place = usize::from(node.number());
+    if place >= entries.len() {
+        return;
+    }
+    if let Some(entry) = &mut entries[place] {
+        entry.attrs = attrs;
+    }
+}
+
+/// Changes the list that a node gives to new nodes in it, where the node is there.
+pub(crate) fn set_default(entries: &mut [Option<Entry>], node: Node, list: Option<Acl>)
+    ensures { entries.new ≡ with_entry (entry_with_default list) entries.old node }
+{
+    let place = usize::from(node.number());
+    if place >= entries.len() {
+        return;
+    }
+    if let Some(entry) = &mut entries[place] {
+        entry.default = list;
+    }
+}

@@ -1,0 +1,137 @@
+//! The tree: its nodes, made, changed and taken away.
+ghost use Rattle.std.specs.Prelude.{◌≡◌, ◌≢◌, ◌↔◌, ℕ, List, [], ◌∷◌, ◌++◌, Some, None, option_map, option_copied, IsTrue, IsErr, IfOk, OnOk, OnErr};
+ghost use Rattle.access_rule.specs.Tree.{NodeRecord, is_dir, is_dir_record};
+ghost use Rattle.vnode_tree.specs.declared.TheConstants.{NODES};
+ghost use Rattle.vnode_tree.specs.Nodes.{IsLive, named_at, path_of, record_of, tree_of, with_node, with_record, with_attrs, with_default, new_node, is_name, count_of, ChangesAt};
+
+use crate::contents::Contents;
+use crate::entry::{Entry, Name255};
+use crate::table::{self, entry_of, free_place};
+use access_rule::Attrs;
+use acl_core::Acl;
+use call_words::{Kind, Node};
+use std::marker::Model;
+
+/// The tree has 1,024 nodes.
+#[derive(Clone, Copy, Debug, PartialEq, Eq)]
+pub struct TreeFull;
+
+/// The file tree. Contracts see of it, for each node, its path and what it is.
+#[derive(Drop)]
+pub struct Tree {
+    pub(crate) entries: Vec<Option<Entry>>,
+}
+
+impl Model for Tree {
+    ghost use Rattle.std.specs.Prelude.{List, Option};
+    ghost use Rattle.vnode_tree.specs.Nodes.{Named};
+
+    ghost Value = { List (Option Named) };
+
+    ghost use Rattle.vnode_tree.specs.Links.{nodes_of};
+    ghost use Rattle.vnode_tree.specs.Kept.{IsKept};
+
+    ghost view = { λ t. nodes_of t.entries.items };
+
+    ghost invariant = { λ t. IsKept t.entries.items };
+}
+
+impl Tree {
+    /// What a node is. The node is live.
+    #[tactic(auto, using(crate::proofs::Looks::live_entry, crate::proofs::Looks::record_is))]
+    pub fn kind(&self, node: Node) -> Kind
+        requires { IsLive self.now node }
+        ensures { option_map (λ r. r.kind) (record_of self.now node) ≡ Some result }
+    {
+        entry_of(self.entries.as_slice(), node).kind
+    }
+
+    /// What access to a node depends on. The node is live.
+    #[tactic(auto, using(crate::proofs::Looks::live_entry, crate::proofs::Looks::record_is))]
+    pub fn attrs(&self, node: Node) -> &Attrs
+        requires { IsLive self.now node }
+        ensures attrs { option_map (λ r. r.attrs) (record_of self.now node) ≡ Some result.now }
+        ensures dirs { result.now.is_dir ≡ is_dir_record (record_of self.now node) }
+    {
+        &entry_of(self.entries.as_slice(), node).attrs
+    }
+
+    /// The list that a node gives to new nodes in it, if it has one. The node is live.
+    #[tactic(auto, using(crate::proofs::Looks::live_entry, crate::proofs::Looks::record_is))]
+    pub fn default_list(&self, node: Node) -> Option<&Acl>
+        requires { IsLive self.now node }
+        ensures { option_map (λ r. r.default) (record_of self.now node) ≡ Some (option_copied result) }
+    {
+        entry_of(self.entries.as_slice(), node).default.as_ref()
+    }
+
+    /// Makes a node of that name in a directory. `TreeFull` comes exactly where there are 1,024 nodes, and then
+    /// nothing changes.
+    ///
+    /// The directory is live and has no node of that name; the name is not empty, `.` or `..`, and has no slash; and
+    /// the attributes are a directory's exactly for a directory.
+    pub fn create(
+        &mut self,
+        dir: Node,
+        name: &Name255,
+        kind: Kind,
+        attrs: Attrs,
+        default: Option<Acl>,
+    ) -> Result<Node, TreeFull>
+        requires dir { IsTrue (is_dir_record (record_of self.old dir)) }
+        requires absent { tree_of self.old (path_of self.old dir ++ name.now ∷ []) ≡ None }
+        requires named { IsTrue (is_name name.now) }
+        requires kind { attrs.is_dir ≡ is_dir kind }
+        ensures full { IsErr result ↔ (count_of self.old ≡ NODES) }
+        ensures free { IfOk result (λ node. named_at self.old node ≡ None) }
+        ensures made { IfOk result (λ node. self.new ≡ with_node self.old node (Some (record { path = path_of self.old dir ++ name.now ∷ []; node = new_node kind attrs default }))) }
+        ensures live { IfOk result (λ node. IsLive self.new node) }
+        ensures changes { OnOk result (ChangesAt (path_of self.old dir ++ name.now ∷ []) (Some (new_node kind attrs default)) self.old self.new) }
+        ensures err { OnErr result (self.new ≡ self.old) }
+    {
+        let alloc = *self.entries.allocator();
+        let Some(place) = free_place(self.entries.as_slice()) else {
+            return Err(TreeFull);
+        };
+        self.entries[place] = Some(Entry {
+            dir: dir.number(),
+            name: name.copy(),
+            kind,
+            attrs,
+            default,
+            contents: Contents::empty(alloc),
+        });
+        Ok(Node::of(place as u16))
+    }
+
+    /// Takes a node away. It is live, has no children, and is not the root.
+    pub fn remove(&mut self, node: Node)
+        requires live { IsLive self.old node }
+        requires leaf { (name : List ℕ) → tree_of self.old (path_of self.old node ++ name ∷ []) ≡ None }
+        requires below { path_of self.old node ≢ [] }
+        ensures gone { self.new ≡ with_node self.old node None }
+        ensures changes { ChangesAt (path_of self.old node) None self.old self.new }
+    {
+        self.entries[usize::from(node.number())] = None;
+    }
+
+    /// Changes what access to a node depends on. The node is live, and the attributes are a directory's exactly for a
+    /// directory.
+    pub fn set_attrs(&mut self, node: Node, attrs: Attrs)
+        requires live { IsLive self.old node }
+        requires kind { attrs.is_dir ≡ is_dir_record (record_of self.old node) }
+        ensures set { self.new ≡ with_record (with_attrs attrs) self.old node }
+        ensures changes { ChangesAt (path_of self.old node) (option_map (with_attrs attrs) (record_of self.old node)) self.old self.new }
+    {
+        table::set_attrs(self.entries.as_mut_slice(), node, attrs);
+    }
+
+    /// Changes the list that a node gives to new nodes in it, or takes it away. The node is live.
+    pub fn set_default(&mut self, node: Node, list: Option<Acl>)
+        requires live { IsLive self.old node }
+        ensures set { self.new ≡ with_record (with_default list) self.old node }
+        ensures changes { ChangesAt (path_of self.old node) (option_map (with_default list) (record_of self.old node)) self.old self.new }
+    {
+        table::set_default(self.entries.as_mut_slice(), node, list);
+    }
+}
