@@ -26,6 +26,12 @@ is_dir kind.File = false
 is_dir (kind.Line n) = false
 is_dir kind.Tty = false
 
+abbrev pub is_file : Kind → Bool
+is_file kind.File = true
+is_file kind.Dir = false
+is_file (kind.Line n) = false
+is_file kind.Tty = false
+
 abbrev pub is_dir_record : Option NodeRecord → Bool
 is_dir_record None = false
 is_dir_record (Some node) = is_dir node.kind

@@ -2,8 +2,7 @@
 use Rattle.std.proofs.Common.{◌≡◌, ◌≢◌, ◌↔◌, ◌⊎◌, inl, inr, ℕ, zero, suc, ◌+◌, ◌<◌, ◌≤◌, Bool, true, false, cond, List, [], ◌∷◌, ◌++◌, length, take, drop, set, get_or, Option, Some, None, option_map, refl, sym, ap, ◌∙◌, arith, subst, ltb, lt-ltb, length-append}
 use Rattle.std.specs.Prelude.{IsSome, IsTrue, is_some, is_none, position, count_by, sum_by, not, ◌&&◌}
 use Rattle.std.specs.List.{position_or_len}
-use Rattle.std.proofs.lemmas.List.{get_or-set_same, get_or-set_other, length-set, append-nil, take_all}
-use Rattle.std.proofs.Math.ListN.{drop_of_length-le}
+use Rattle.std.proofs.lemmas.List.{get_or-set_same, get_or-set_other, length-set}
 use Rattle.std.proofs.lemmas.List.Quantifiers.{position-Some}
 use Rattle.std.proofs.lemmas.List.Sums.{sum_by-set, sum_by-cons, fails_before_first}
 use Rattle.std.proofs.lemmas.Bool.{cases_eq, cases_lt}
@@ -18,6 +17,7 @@ use Rattle.vnode_tree.proofs.Paths.{AtRoot, Below, path_is as step_of, root_path
 use Rattle.vnode_tree.proofs.Counts.{live_within, count_with_free, at_most_one}
 use Rattle.vnode_tree.proofs.Trees.{ArePathsApart, Owns, changes_at, at_its_path, FoundAt, found_at}
 use Rattle.vnode_tree.proofs.Tables.{length-nodes, Placed, placed, Listed, listed, paths_apart}
+use Rattle.vnode_tree.proofs.Vectors.{all_written}
 use Rattle.vnode_tree.proofs.Changes.{Changed, IsLike, changed_entry, made_entry, removed_entry}
 use Rattle.vnode_tree.proofs.Looks.{live_entry, record_is}
 
@@ -94,7 +94,7 @@ same_size entries n entry like kept at same =
     let sums : sum_by size_in (set entries n (Some like)) + size_in (get_or entries n None) ≡ sum_by size_in entries + size_in (Some like) = sum_by-set size_in entries n (Some like) None (live_within entries n entry at) in
     omega (arith, sums, kept.space, ap size_in at, ap (λ (xs : List ℕ). length xs) same)
 
-some_entry : {X : Type 0} (x : Option X) → IsSome x → (y : X) × (x ≡ Some y)
+pub some_entry : {X : Type 0} (x : Option X) → IsSome x → (y : X) × (x ≡ Some y)
 some_entry None some = absurd (let no : false ≡ true = some in cc)
 some_entry (Some y) some = (y, refl)
 
@@ -220,12 +220,6 @@ pub made : (entries : List (Option Entry)) (nodes : List (Option Named)) (n : �
 made entries nodes n entry view kept found dir named dirs empty none =
     subst (λ (ns : List (Option Named)). IsTrue (is_dir_record (record_of ns entry.dir)) → tree_of ns (path_of ns entry.dir ++ entry.name ∷ []) ≡ None → Made ns n (path_of ns entry.dir ++ entry.name ∷ []) (record_in entry) (set entries n (Some entry))) view
         (λ d m. made_here entries n entry kept found d named dirs empty m) dir none
-
--- a vector after all of it was written
-pub all_written : {X : Type 0} (size : ℕ) (xs ys : List X) → size ≡ length ys → length xs ≡ length ys → take size (xs ++ drop (length xs) ys) ≡ xs
-all_written size xs ys whole same =
-    let nothing : drop (length xs) ys ≡ [] = drop_of_length-le ys (omega (arith, same)) in
-    rw nothing (ap (take size) (append-nil xs) ∙ take_all size xs (omega (arith, whole, same)))
 
 -- a node that is live stands within the table
 pub live_inside : (entries : List (Option Entry)) (nodes : List (Option Named)) (n : ℕ) → nodes_of entries ≡ nodes → IsLive nodes n → n < length entries

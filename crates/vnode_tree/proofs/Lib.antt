@@ -1,3 +1,4 @@
+pub mod Vectors
 pub mod Paths
 pub mod Counts
 pub mod Trees
@@ -5,3 +6,5 @@ pub mod Tables
 pub mod Changes
 pub mod Looks
 pub mod Calls
+pub mod Writes
+pub mod Files

@@ -57,3 +57,6 @@ entry_with_attrs attrs entry = record entry { attrs = attrs }
 
 abbrev pub entry_with_default : Option (List ListEntry) → Entry → Entry
 entry_with_default list entry = record entry { default = list }
+
+abbrev pub entry_with_contents : (List ℕ → List ℕ) → Entry → Entry
+entry_with_contents change entry = record entry { contents = change entry.contents }

@@ -6,7 +6,7 @@ use Rattle.std.specs.Str.{bytes_eq}
 use Rattle.acl_core.specs.declared.entry.Entry.{Entry}
 use Rattle.call_words.specs.declared.node.Kind.{Kind}
 use Rattle.access_rule.specs.declared.Attrs.{Attrs}
-use Rattle.access_rule.specs.Tree.{NodeRecord, Tree, is_skipped, is_parent, is_slash}
+use Rattle.access_rule.specs.Tree.{NodeRecord, Tree, is_file, is_skipped, is_parent, is_slash}
 
 -- a node: its path, which is the list of names from the root down to it, and what it is
 pub record Named : Type 0 where
@@ -32,6 +32,14 @@ path_of nodes number = path_in (named_at nodes number)
 -- what a node is
 abbrev pub record_of : List (Option Named) → ℕ → Option NodeRecord
 record_of nodes number = option_map (λ named. named.node) (named_at nodes number)
+
+abbrev pub is_file_record : Option NodeRecord → Bool
+is_file_record None = false
+is_file_record (Some node) = is_file node.kind
+
+-- there is a file of the number
+abbrev pub IsFile : List (Option Named) → ℕ → Type 0
+IsFile nodes number = is_file_record (record_of nodes number) ≡ true
 
 abbrev pub same_path : List (List ℕ) → List (List ℕ) → Bool
 same_path [] [] = true

@@ -1,5 +1,5 @@
 //! What a file holds.
-ghost use Rattle.std.specs.Prelude.{◌≡◌, ℕ, ◌+◌, ◌<◌, ◌≤◌, ◌^◌, [], length, OnOk, OnErr};
+ghost use Rattle.std.specs.Prelude.{◌≡◌, ℕ, ◌+◌, ◌-◌, ◌<◌, ◌≤◌, ◌^◌, [], ◌++◌, length, take, drop, replicate, OnOk, OnErr};
 ghost use Rattle.vnode_tree.specs.Contents.{bytes_at, written};
 
 use call_words::Piece;
@@ -18,6 +18,25 @@ impl Model for Contents {
     ghost Value = { List ℕ };
 
     ghost view = { λ c. c.bytes.items };
+}
+
+/// Adds zeros up to a length. With `Err` nothing changes.
+fn fill_to(bytes: &mut Vec<u8>, len: usize) -> Result<(), AllocError>
+    ensures ok { OnOk result (bytes.new.items ≡ bytes.old.items ++ replicate (len - length bytes.old.items) 0) }
+    ensures err { OnErr result (bytes.new.items ≡ bytes.old.items) }
+{
+    if len > bytes.len() {
+        bytes.resize(len, 0)?;
+    }
+    Ok(())
+}
+
+/// Puts bytes at a place among others, which are long enough.
+fn put(bytes: &mut [u8], at: usize, new: &[u8])
+    requires { at + length new.now ≤ length bytes.old }
+    ensures { bytes.new ≡ take at bytes.old ++ new.now ++ drop (at + length new.now) bytes.old }
+{
+    bytes[at..at + new.len()].copy_from_slice(new);
 }
 
 impl Contents {
@@ -47,20 +66,29 @@ impl Contents {
         Piece::from_slice(piece).unwrap()
     }
 
+    /// How many bytes there are after a write.
+    #[tactic(auto, using(crate::proofs::Files::length_written_none, crate::proofs::Files::length_written))]
+    pub(crate) fn len_after(&self, at: u32, bytes: &[u8]) -> usize
+        ensures { result ≡ length (written self.now at bytes.now) }
+    {
+        if bytes.is_empty() {
+            return self.bytes.len();
+        }
+        self.bytes.len().max(at as usize + bytes.len())
+    }
+
     /// Writes bytes at a place. Bytes that are missing before it become 0. With `Err` nothing changes.
-    pub(crate) fn write(&mut self, at: usize, bytes: &[u8]) -> Result<(), AllocError>
-        requires { at + length bytes.now < 2 ^ 63 }
+    pub(crate) fn write(&mut self, at: u32, bytes: &[u8]) -> Result<(), AllocError>
         ensures ok { OnOk result (self.new ≡ written self.old at bytes.now) }
         ensures err { OnErr result (self.new ≡ self.old) }
     {
         if bytes.is_empty() {
             return Ok(());
         }
+        let at = at as usize;
         let end = at + bytes.len();
-        if end > self.bytes.len() {
-            self.bytes.resize(end, 0)?;
-        }
-        self.bytes[at..end].copy_from_slice(bytes);
+        fill_to(&mut self.bytes, end)?;
+        put(self.bytes.as_mut_slice(), at, bytes);
         Ok(())
     }
 

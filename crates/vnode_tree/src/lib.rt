@@ -12,7 +12,7 @@ mod tree;
 pub use call_words::{Kind, Node};
 pub use entry::Name255;
 pub use std::alloc::AllocError as NoMemory;
-pub use tree::{Tree, TreeFull};
+pub use tree::{Tree, TreeFull, WriteFault};
 
 /// How many nodes a tree has at most, the root among them.
 pub const NODES: usize = 1024;

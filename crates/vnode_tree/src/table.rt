@@ -1,12 +1,15 @@
 //! Places of the table of nodes.
-ghost use Rattle.std.specs.Prelude.{◌≡◌, ℕ, List, IsSome, Some, None, is_none, position, sum_by, slice_index_or, slice_set, ◌≤◌};
-ghost use Rattle.vnode_tree.specs.Links.{entry_at, is_child, with_entry, entry_with_attrs, entry_with_default};
+ghost use Rattle.std.specs.Prelude.{◌≡◌, ℕ, List, IsSome, Some, None, is_none, position, sum_by, slice_index_or, slice_set, ◌+◌, ◌<◌, ◌≤◌, ◌^◌, [], length, OnOk, OnErr};
+ghost use Rattle.vnode_tree.specs.Links.{entry_at, is_child, with_entry, entry_with_attrs, entry_with_default, entry_with_contents};
+ghost use Rattle.vnode_tree.specs.Contents.{written};
+ghost use Rattle.vnode_tree.specs.declared.TheConstants.{FILE_SPACE};
 ghost use Rattle.vnode_tree.specs.Kept.{size_in};
 
 use crate::entry::Entry;
 use access_rule::Attrs;
 use acl_core::Acl;
 use call_words::Node;
+use std::alloc::AllocError;
 
 /// The entry of a node that is there.
 pub(crate) fn entry_of(entries: &[Option<Entry>], node: Node) -> &Entry
@@ -66,5 +69,61 @@ pub(crate) fn set_default(entries: &mut [Option<Entry>], node: Node, list: Optio
     }
     if let Some(entry) = &mut entries[place] {
         entry.default = list;
+    }
+}
+
+/// How many bytes a node holds.
+fn size(entry: &Option<Entry>) -> usize
+    ensures { result ≡ size_in entry.now }
+{
+    match entry {
+        Some(entry) => entry.contents.len(),
+        None => 0,
+    }
+}
+
+/// How many bytes all nodes hold: at most 4,194,304.
+#[tactic(auto, using(std::proofs::lemmas::List::Sums::sum_by_more))]
+pub(crate) fn all_sizes(entries: &[Option<Entry>]) -> usize
+    requires { sum_by size_in entries.now ≤ FILE_SPACE }
+    ensures { result ≡ sum_by size_in entries.now }
+{
+    let mut total = 0;
+    for entry in entries {
+        total += size(entry);
+    }
+    total
+}
+
+/// Writes bytes at a place of what a node holds, where the node is there. With `Err` nothing changes.
+pub(crate) fn write(
+    entries: &mut [Option<Entry>],
+    node: Node,
+    at: u32,
+    bytes: &[u8],
+) -> Result<(), AllocError>
+    ensures ok { OnOk result (entries.new ≡ with_entry (entry_with_contents (λ old. written old at bytes.now)) entries.old node) }
+    ensures err { OnErr result (entries.new ≡ entries.old) }
+{
+    let place = usize::from(node.number());
+    if place >= entries.len() {
+        return Ok(());
+    }
+    if let Some(entry) = &mut entries[place] {
+        entry.contents.write(at, bytes)?;
+    }
+    Ok(())
+}
+
+/// Lets go what a node holds, where the node is there.
+pub(crate) fn clear(entries: &mut [Option<Entry>], node: Node)
+    ensures { entries.new ≡ with_entry (entry_with_contents (λ old. [])) entries.old node }
+{
+    let place = usize::from(node.number());
+    if place >= entries.len() {
+        return;
+    }
+    if let Some(entry) = &mut entries[place] {
+        entry.contents.clear();
     }
 }

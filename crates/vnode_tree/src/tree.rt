@@ -1,20 +1,33 @@
 //! The tree: its nodes, made, changed and taken away.
-ghost use Rattle.std.specs.Prelude.{◌≡◌, ◌≢◌, ◌↔◌, ℕ, List, [], ◌∷◌, ◌++◌, Some, None, option_map, option_copied, IsTrue, IsErr, IfOk, OnOk, OnErr};
+ghost use Rattle.std.specs.Prelude.{◌≡◌, ◌≢◌, ◌↔◌, ℕ, ◌<◌, ◌≤◌, List, [], ◌∷◌, ◌++◌, Some, None, Ok, Err, option_map, option_copied, IsTrue, IsErr, IfOk, OnOk, OnErr};
 ghost use Rattle.access_rule.specs.Tree.{NodeRecord, is_dir, is_dir_record};
-ghost use Rattle.vnode_tree.specs.declared.TheConstants.{NODES};
-ghost use Rattle.vnode_tree.specs.Nodes.{IsLive, named_at, path_of, record_of, tree_of, with_node, with_record, with_attrs, with_default, new_node, is_name, count_of, ChangesAt};
+ghost use Rattle.vnode_tree.specs.Contents.{bytes_at, with_written, space_of};
+ghost use Rattle.vnode_tree.specs.declared.TheConstants.{NODES, FILE_SPACE};
+ghost use Rattle.vnode_tree.specs.declared.tree.WriteFault.TheVariants.{Space};
+ghost use Rattle.vnode_tree.specs.Nodes.{IsLive, IsFile, named_at, path_of, record_of, tree_of, with_node, with_record, with_attrs, with_default, with_contents, new_node, is_name, count_of, ChangesAt};
 
+use crate::FILE_SPACE;
 use crate::contents::Contents;
 use crate::entry::{Entry, Name255};
 use crate::table::{self, entry_of, free_place};
 use access_rule::Attrs;
 use acl_core::Acl;
-use call_words::{Kind, Node};
+use call_words::{Kind, Node, Piece};
+use std::alloc::AllocError;
 use std::marker::Model;
 
 /// The tree has 1,024 nodes.
 #[derive(Clone, Copy, Debug, PartialEq, Eq)]
 pub struct TreeFull;
+
+/// Why a write to a file is refused.
+#[derive(Clone, Copy, Debug, PartialEq, Eq)]
+pub enum WriteFault {
+    /// The contents of all files would pass 4,194,304 bytes.
+    Space,
+    /// There is no memory.
+    NoMemory,
+}
 
 /// The file tree. Contracts see of it, for each node, its path and what it is.
 #[derive(Drop)]
@@ -133,5 +146,47 @@ impl Tree {
         ensures changes { ChangesAt (path_of self.old node) (option_map (with_default list) (record_of self.old node)) self.old self.new }
     {
         table::set_default(self.entries.as_mut_slice(), node, list);
+    }
+
+    /// At most `max` bytes of a file from a place on. The node is a live file, and `max` is at most 512.
+    #[tactic(auto, using(crate::proofs::Looks::live_entry, crate::proofs::Looks::record_is))]
+    pub fn read(&self, node: Node, at: u32, max: u16) -> Piece
+        requires file { IsFile self.now node }
+        requires max { max ≤ 512 }
+        ensures { option_map (λ r. bytes_at at max r.contents) (record_of self.now node) ≡ Some result }
+    {
+        let entry = entry_of(self.entries.as_slice(), node);
+        entry.contents.read(at as usize, usize::from(max))
+    }
+
+    /// Writes bytes at a place of a file. Bytes that are missing before it become 0, and a write of no bytes changes
+    /// nothing. The node is a live file.
+    ///
+    /// `Space` comes exactly where the contents of all files would pass 4,194,304 bytes. With `Err` nothing changes.
+    pub fn write(&mut self, node: Node, at: u32, bytes: &[u8]) -> Result<(), WriteFault>
+        requires { IsFile self.old node }
+        ensures space { (result ≡ Err Space) ↔ (FILE_SPACE < space_of (with_record (with_written at bytes.now) self.old node)) }
+        ensures written { OnOk result (self.new ≡ with_record (with_written at bytes.now) self.old node) }
+        ensures changes { OnOk result (ChangesAt (path_of self.old node) (option_map (with_written at bytes.now) (record_of self.old node)) self.old self.new) }
+        ensures err { OnErr result (self.new ≡ self.old) }
+    {
+        let contents = &entry_of(self.entries.as_slice(), node).contents;
+        let others = table::all_sizes(self.entries.as_slice()) - contents.len();
+        if contents.len_after(at, bytes) > FILE_SPACE - others {
+            return Err(WriteFault::Space);
+        }
+        match table::write(self.entries.as_mut_slice(), node, at, bytes) {
+            Ok(()) => return Ok(()),
+            Err(AllocError) => return Err(WriteFault::NoMemory),
+        }
+    }
+
+    /// Lets go what a file holds. The node is a live file.
+    pub fn truncate(&mut self, node: Node)
+        requires { IsFile self.old node }
+        ensures cut { self.new ≡ with_record (with_contents []) self.old node }
+        ensures changes { ChangesAt (path_of self.old node) (option_map (with_contents []) (record_of self.old node)) self.old self.new }
+    {
+        table::clear(self.entries.as_mut_slice(), node);
     }
 }
