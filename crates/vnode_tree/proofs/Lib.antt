@@ -8,3 +8,4 @@ pub mod Looks
 pub mod Calls
 pub mod Writes
 pub mod Files
+pub mod Cuts

@@ -6,13 +6,16 @@
 
 mod contents;
 mod entry;
+mod steps;
 mod table;
 mod tree;
+mod walk;
 
 pub use call_words::{Kind, Node};
 pub use entry::Name255;
 pub use std::alloc::AllocError as NoMemory;
 pub use tree::{Tree, TreeFull, WriteFault};
+pub use walk::{End, MOST_PARTS, Walk};
 
 /// How many nodes a tree has at most, the root among them.
 pub const NODES: usize = 1024;

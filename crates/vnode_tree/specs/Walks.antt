@@ -1,0 +1,49 @@
+-- Walks as contracts see them: with the paths of the nodes that they pass.
+use Rattle.std.specs.Prelude.{◌≡◌, ℕ, suc, ◌+◌, List, [], ◌∷◌, ◌++◌, if◌then◌else◌, map, length, Option, Some, None, All}
+use Rattle.access_rule.specs.Tree.{WalkEnd, Walked, is_skipped, steps}
+use Rattle.access_rule.specs.Tree as tree
+use Rattle.vnode_tree.specs.declared.walk.End.{End}
+use Rattle.vnode_tree.specs.declared.walk.End.TheVariants.{Found, Absent, Missing, NotDir, NameLong, PathLong}
+use Rattle.vnode_tree.specs.declared.walk.Walk.{Walk}
+use Rattle.vnode_tree.specs.Nodes.{Named, IsLive, path_of}
+
+-- the end of a walk, by the path of its node
+abbrev pub seen_end : List (Option Named) → End → WalkEnd
+seen_end nodes (Found node) = tree.found (path_of nodes node)
+seen_end nodes (Absent dir name) = tree.absent (path_of nodes dir) name
+seen_end nodes Missing = tree.missing
+seen_end nodes NotDir = tree.not_dir
+seen_end nodes NameLong = tree.name_long
+seen_end nodes PathLong = tree.path_long
+
+-- a walk, by the paths of its nodes
+abbrev pub seen : List (Option Named) → Walk → Walked
+seen nodes walk = record { passed = map (path_of nodes) walk.passed.items; end = seen_end nodes walk.end }
+
+-- the node of an end, if it has one, is live
+abbrev pub IsLiveEnd : List (Option Named) → End → Type 0
+IsLiveEnd nodes (Found node) = IsLive nodes node
+IsLiveEnd nodes (Absent dir name) = IsLive nodes dir
+IsLiveEnd nodes Missing = Unit {0}
+IsLiveEnd nodes NotDir = Unit {0}
+IsLiveEnd nodes NameLong = Unit {0}
+IsLiveEnd nodes PathLong = Unit {0}
+
+-- the parts that are left of a path; none where nothing is left, not even an empty part
+abbrev pub steps_after : Option (List ℕ) → List (List ℕ)
+steps_after None = []
+steps_after (Some left) = steps left
+
+-- how many bytes are left, with the slash before them
+abbrev pub bytes_after : Option (List ℕ) → ℕ
+bytes_after None = 0
+bytes_after (Some left) = suc (length left)
+
+-- the step of a part, if it is one
+abbrev pub step_of : List ℕ → List (List ℕ)
+step_of part = if is_skipped part then [] else part ∷ []
+
+-- a path cut at its first slash, if it has one
+pub record IsCut (path part : List ℕ) (rest : Option (List ℕ)) : Type 0 where
+  pub parts : steps path ≡ step_of part ++ steps_after rest
+  pub shorter : bytes_after rest + length part ≡ length path
