@@ -9,3 +9,6 @@ pub mod Calls
 pub mod Writes
 pub mod Files
 pub mod Cuts
+pub mod Children
+pub mod WalkSteps
+pub mod Walking

@@ -69,7 +69,7 @@ listed entries n named at =
           ] refl e
     ] refl (sym (named_is entries n) ∙ at)
 
-snoc_same : (p q : List (List ℕ)) (x y : List ℕ) → p ++ x ∷ [] ≡ q ++ y ∷ [] → (p ≡ q) × (x ≡ y)
+pub snoc_same : (p q : List (List ℕ)) (x y : List ℕ) → p ++ x ∷ [] ≡ q ++ y ∷ [] → (p ≡ q) × (x ≡ y)
 snoc_same [] [] x y e = let both : x ≡ y = cc in (refl, both)
 snoc_same [] (b ∷ q) x y e = let tail : [] ≡ q ++ y ∷ [] = cc in absurd (omega (arith, ap length tail, length-append q (y ∷ [])))
 snoc_same (a ∷ p) [] x y e = let tail : p ++ x ∷ [] ≡ [] = cc in absurd (omega (arith, ap length tail, length-append p (x ∷ [])))

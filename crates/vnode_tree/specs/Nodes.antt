@@ -89,3 +89,9 @@ count_of nodes = count_by is_some nodes
 -- what is at one path has changed, and what is at every other path has not
 pub record ChangesAt (path : List (List ℕ)) (now : Option NodeRecord) (old new : List (Option Named)) : Type 0 where
   pub only : (other : List (List ℕ)) → tree_of new other ≡ (if same_path other path then now else tree_of old other)
+
+-- the node of a number is at a path
+pub record IsAt (nodes : List (Option Named)) (path : List (List ℕ)) (number : ℕ) : Type 0 where
+  pub live : IsLive nodes number
+  pub here : path_of nodes number ≡ path
+  pub some : is_some (tree_of nodes path) ≡ true

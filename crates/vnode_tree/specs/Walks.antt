@@ -47,3 +47,8 @@ step_of part = if is_skipped part then [] else part ∷ []
 pub record IsCut (path part : List ℕ) (rest : Option (List ℕ)) : Type 0 where
   pub parts : steps path ≡ step_of part ++ steps_after rest
   pub shorter : bytes_after rest + length part ≡ length path
+
+-- a walk has gone on: it has passed what it passes, and its end is this
+pub record Passes (whole : Walked) (before after : List (List (List ℕ))) (end : WalkEnd) : Type 0 where
+  pub passed : after ≡ before ++ whole.passed
+  pub ends : end ≡ whole.end

@@ -1,5 +1,6 @@
 //! The parts of a path.
 ghost use Rattle.std.specs.Prelude.{◌≡◌, ℕ, ◌+◌, ◌<◌, ◌≤◌, ◌*◌, List, [], ◌∷◌, length, position, option_copied, MatchOption, IfSome};
+ghost use Rattle.std.specs.Bool.{OnFalse};
 ghost use Rattle.access_rule.specs.Tree.{is_slash, is_skipped, steps};
 ghost use Rattle.vnode_tree.specs.Walks.{IsCut, steps_after};
 
@@ -22,7 +23,8 @@ impl<'a> Model for Steps<'a> {
 
 /// Whether a part does nothing.
 fn is_skipped(part: &[u8]) -> bool
-    ensures { result ≡ is_skipped part.now }
+    ensures skipped { result ≡ is_skipped part.now }
+    ensures some { OnFalse result (0 < length part.now) }
 {
     part.is_empty() || part == b".".as_slice()
 }
@@ -50,7 +52,8 @@ fn cut_part(path: &[u8]) -> (&[u8], Option<&[u8]>)
 /// The next part that does something, and what is left after it.
 #[tactic(auto, using(crate::proofs::Cuts::skipped_part, crate::proofs::Cuts::kept_part, crate::proofs::Cuts::less_left))]
 fn next_part<'a>(path: Option<&'a [u8]>) -> Option<(&'a [u8], Option<&'a [u8]>)>
-    ensures { MatchOption result (steps_after (option_copied path.entry) ≡ []) (λ pair. steps_after (option_copied path.entry) ≡ pair.0.now ∷ steps_after (option_copied pair.1)) }
+    ensures next { MatchOption result (steps_after (option_copied path.entry) ≡ []) (λ pair. steps_after (option_copied path.entry) ≡ pair.0.now ∷ steps_after (option_copied pair.1)) }
+    ensures some { IfSome result (λ pair. 0 < length pair.0.now) }
 {
     let mut left = path;
     while let Some(bytes) = left {
@@ -76,7 +79,8 @@ impl<'a> Steps<'a> {
 
     /// Takes the next part. `None` exactly where none is left.
     pub(crate) fn next(&mut self) -> Option<&'a [u8]>
-        ensures { MatchOption result ((self.old ≡ []) × (self.new ≡ [])) (λ part. self.old ≡ part.now ∷ self.new) }
+        ensures next { MatchOption result ((self.old ≡ []) × (self.new ≡ [])) (λ part. self.old ≡ part.now ∷ self.new) }
+        ensures some { IfSome result (λ part. 0 < length part.now) }
     {
         match next_part(self.left) {
             None => {

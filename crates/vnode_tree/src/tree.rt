@@ -1,15 +1,15 @@
 //! The tree: its nodes, made, changed and taken away.
-ghost use Rattle.std.specs.Prelude.{◌≡◌, ◌≢◌, ◌↔◌, ℕ, ◌<◌, ◌≤◌, List, [], ◌∷◌, ◌++◌, Some, None, Ok, Err, option_map, option_copied, IsTrue, IsErr, IfOk, OnOk, OnErr};
-ghost use Rattle.access_rule.specs.Tree.{NodeRecord, is_dir, is_dir_record};
+ghost use Rattle.std.specs.Prelude.{◌≡◌, ◌≢◌, ◌↔◌, ℕ, ◌<◌, ◌≤◌, List, [], ◌∷◌, ◌++◌, Some, None, Ok, Err, option_map, option_copied, MatchOption, length, IsTrue, IsErr, IfOk, OnOk, OnErr};
+ghost use Rattle.access_rule.specs.Tree.{NodeRecord, is_dir, is_dir_record, parent_of};
 ghost use Rattle.vnode_tree.specs.Contents.{bytes_at, with_written, space_of};
 ghost use Rattle.vnode_tree.specs.declared.TheConstants.{NODES, FILE_SPACE};
 ghost use Rattle.vnode_tree.specs.declared.tree.WriteFault.TheVariants.{Space};
-ghost use Rattle.vnode_tree.specs.Nodes.{IsLive, IsFile, named_at, path_of, record_of, tree_of, with_node, with_record, with_attrs, with_default, with_contents, new_node, is_name, count_of, ChangesAt};
+ghost use Rattle.vnode_tree.specs.Nodes.{IsLive, IsFile, IsAt, named_at, path_of, record_of, tree_of, with_node, with_record, with_attrs, with_default, with_contents, new_node, is_name, count_of, ChangesAt};
 
 use crate::FILE_SPACE;
 use crate::contents::Contents;
 use crate::entry::{Entry, Name255};
-use crate::table::{self, entry_of, free_place};
+use crate::table::{self, child_place, entry_of, free_place};
 use access_rule::Attrs;
 use acl_core::Acl;
 use call_words::{Kind, Node, Piece};
@@ -50,21 +50,56 @@ impl Model for Tree {
 }
 
 impl Tree {
+    /// Whether a node is a directory. The node is live.
+    #[tactic(auto, using(crate::proofs::Looks::live_entry, crate::proofs::Children::what_is_there))]
+    pub(crate) fn is_dir(&self, node: Node) -> bool
+        requires { IsLive self.now node }
+        ensures { result ≡ is_dir_record (tree_of self.now (path_of self.now node)) }
+    {
+        matches!(entry_of(self.entries.as_slice(), node).kind, Kind::Dir)
+    }
+
+    /// The directory that a node is in; the root is in itself. The node is live.
+    pub(crate) fn parent(&self, node: Node) -> Node
+        requires { IsLive self.now node }
+        ensures { IsAt self.now (parent_of (path_of self.now node)) result }
+    {
+        let dir = entry_of(self.entries.as_slice(), node).dir;
+        if node.number() == 0 {
+            return node;
+        }
+        Node::of(dir)
+    }
+
+    /// The node of a name in a directory, if it has one. The directory is live, and the name is not empty.
+    pub(crate) fn child(&self, dir: Node, name: &[u8]) -> Option<Node>
+        requires live { IsLive self.now dir }
+        requires some { 0 < length name.now }
+        ensures { MatchOption result (tree_of self.now (path_of self.now dir ++ name.now ∷ []) ≡ None) (λ node. IsAt self.now (path_of self.now dir ++ name.now ∷ []) node) }
+    {
+        match child_place(self.entries.as_slice(), dir.number(), name) {
+            None => None,
+            Some(place) => Some(Node::of(place as u16)),
+        }
+    }
+
     /// What a node is. The node is live.
-    #[tactic(auto, using(crate::proofs::Looks::live_entry, crate::proofs::Looks::record_is))]
+    #[tactic(auto, using(crate::proofs::Looks::live_entry, crate::proofs::Looks::record_is, crate::proofs::Children::what_is_there))]
     pub fn kind(&self, node: Node) -> Kind
         requires { IsLive self.now node }
-        ensures { option_map (λ r. r.kind) (record_of self.now node) ≡ Some result }
+        ensures kind { option_map (λ r. r.kind) (record_of self.now node) ≡ Some result }
+        ensures there { record_of self.now node ≡ tree_of self.now (path_of self.now node) }
     {
         entry_of(self.entries.as_slice(), node).kind
     }
 
     /// What access to a node depends on. The node is live.
-    #[tactic(auto, using(crate::proofs::Looks::live_entry, crate::proofs::Looks::record_is))]
+    #[tactic(auto, using(crate::proofs::Looks::live_entry, crate::proofs::Looks::record_is, crate::proofs::Children::what_is_there))]
     pub fn attrs(&self, node: Node) -> &Attrs
         requires { IsLive self.now node }
         ensures attrs { option_map (λ r. r.attrs) (record_of self.now node) ≡ Some result.now }
         ensures dirs { result.now.is_dir ≡ is_dir_record (record_of self.now node) }
+        ensures there { record_of self.now node ≡ tree_of self.now (path_of self.now node) }
     {
         &entry_of(self.entries.as_slice(), node).attrs
     }

@@ -1,7 +1,15 @@
 //! The walk of a path.
+ghost use Rattle.std.specs.Prelude.{◌≡◌, ◌≤◌, ◌+◌, ℕ, List, map, ◌++◌, length, All, Option};
+ghost use Rattle.access_rule.specs.Tree.{Walked, walk, walk_from, is_parent, absent_end};
+ghost use Rattle.vnode_tree.specs.Nodes.{Named, IsLive, path_of, tree_of};
+ghost use Rattle.vnode_tree.specs.Walks.{seen, seen_end, IsLiveEnd, Passes};
+
+use crate::NAME_BYTES;
 use crate::entry::Name255;
+use crate::steps::Steps;
+use crate::tree::Tree;
 use arrayvec::ArrayVec;
-use call_words::Node;
+use call_words::{Node, PathText};
 
 /// How many parts a path of 1,023 bytes has at most.
 pub const MOST_PARTS: usize = 512;
@@ -28,4 +36,63 @@ pub enum End {
 pub struct Walk {
     pub passed: ArrayVec<Node, MOST_PARTS>,
     pub end: End,
+}
+
+/// Whether a part leads to the parent.
+fn is_parent(part: &[u8]) -> bool
+    ensures { result ≡ is_parent part.now }
+{
+    part == b"..".as_slice()
+}
+
+/// The end of a walk at a name that a directory does not have: only the last part may be absent.
+fn absent_end(dir: Node, part: &[u8], steps: &mut Steps) -> End
+    requires { length part.now ≤ NAME_BYTES }
+    ensures end { (nodes : List (Option Named)) → seen_end nodes result ≡ absent_end (path_of nodes dir) part.now steps.old }
+    ensures live { (nodes : List (Option Named)) → IsLive nodes dir → IsLiveEnd nodes result }
+{
+    if steps.next().is_some() {
+        return End::Missing;
+    }
+    match Name255::from_slice(part) {
+        Some(name) => End::Absent { dir, name },
+        None => End::NameLong,
+    }
+}
+
+impl Tree {
+    /// Walks the parts from a node, and notes the directories that it passes.
+    fn walk_from(
+        &self,
+        from: Node,
+        steps: &mut Steps,
+        passed: &mut ArrayVec<Node, MOST_PARTS>,
+    ) -> End
+        requires live { IsLive self.now from }
+        requires room { length passed.old.items + length steps.old ≤ MOST_PARTS }
+        requires so_far { All (IsLive self.now) passed.old.items }
+        ensures passes { Passes (walk_from (tree_of self.now) (path_of self.now from) steps.old) (map (path_of self.now) passed.old.items) (map (path_of self.now) passed.new.items) (seen_end self.now result) }
+        ensures lives { All (IsLive self.now) passed.new.items }
+        ensures live_end { IsLiveEnd self.now result }
+    {
+        let mut here = from;
+        while let Some(part) = steps.next() {
+            if part.len() > NAME_BYTES {
+                return End::NameLong;
+            }
+            if !self.is_dir(here) {
+                return End::NotDir;
+            }
+            passed.push(here);
+            if is_parent(part) {
+                here = self.parent(here);
+                continue;
+            }
+            match self.child(here, part) {
+                Some(node) => here = node,
+                None => return absent_end(here, part, steps),
+            }
+        }
+        End::Found(here)
+    }
 }

@@ -1,0 +1,131 @@
+-- Children of a directory, and the directory of a node.
+use Rattle.std.proofs.Common.{◌≡◌, ◌≢◌, ◌⊎◌, inl, inr, ℕ, zero, suc, ◌+◌, ◌-◌, ◌<◌, ◌≤◌, Bool, true, false, cond, List, [], ◌∷◌, ◌++◌, length, take, get_or, Option, Some, None, option_map, refl, sym, ap, ◌∙◌, arith, subst, eq-eqb, eqb-true, length-append}
+use Rattle.std.specs.Prelude.{IsSome, is_some, position, ◌&&◌, ◌==◌}
+use Rattle.std.specs.Str.{bytes_eq}
+use Rattle.std.proofs.lemmas.Slice.Eq.{bytes_eq-Decides}
+use Rattle.std.proofs.lemmas.List.Quantifiers.{position-Some}
+use Rattle.std.proofs.lemmas.List.{take-append-le}
+use Rattle.std.proofs.Math.Seq.{take-length}
+use Rattle.access_rule.specs.Tree.{NodeRecord, is_dir, is_dir_record, parent_of}
+use Rattle.vnode_tree.specs.declared.entry.Entry.{Entry}
+use Rattle.vnode_tree.specs.Nodes.{Named, IsLive, IsAt, named_at, path_in, path_of, record_of, tree_of}
+use Rattle.vnode_tree.specs.Links.{entry_at, path_up, record_in, nodes_of, is_child}
+use Rattle.vnode_tree.specs.Kept.{IsKept}
+use Rattle.vnode_tree.proofs.Paths.{AtRoot, Below, path_is, enough_fuel, root_path}
+use Rattle.vnode_tree.proofs.Counts.{live_within}
+use Rattle.vnode_tree.proofs.Trees.{ArePathsApart, at_its_path, FoundAt, found_at}
+use Rattle.vnode_tree.proofs.Tables.{Placed, placed, Listed, listed, one_node, paths_apart, snoc_same}
+use Rattle.vnode_tree.proofs.Looks.{live_entry}
+use Rattle.vnode_tree.proofs.Calls.{some_entry, all_fail}
+
+both_true : (a b : Bool) → (a && b) ≡ true → (a ≡ true) × (b ≡ true)
+both_true true b e = (refl, e)
+both_true false b e = absurd cc
+
+child_parts : (dir : ℕ) (name : List ℕ) (o : Option Entry) → is_child dir name o ≡ true → (entry : Entry) × (o ≡ Some entry) × (entry.dir ≡ dir) × (entry.name ≡ name)
+child_parts dir name None e = absurd cc
+child_parts dir name (Some entry) e =
+    let both = both_true (entry.dir == dir) (bytes_eq entry.name name) e in
+    (entry, refl, eqb-true entry.dir dir both.0, (bytes_eq-Decides entry.name name).0 both.1)
+
+-- a node is at its path
+pub at_path : (entries : List (Option Entry)) (nodes : List (Option Named)) (n : ℕ) (entry : Entry) (path : List (List ℕ)) → nodes_of entries ≡ nodes → IsKept entries → entry_at entries n ≡ Some entry → path_up (length entries) entries n ≡ Some path → IsAt nodes path n
+at_path entries nodes n entry path view kept at up = subst (λ ns. IsAt ns path n) view (
+    let there = placed entries n entry kept at in
+    let same : there.path ≡ path = let both : Some there.path ≡ Some path = sym there.up ∙ up in cc in
+    let found : tree_of (nodes_of entries) there.path ≡ Some (record_in entry) = at_its_path (nodes_of entries) n (record { path = there.path; node = record_in entry }) (paths_apart entries kept) there.named in
+    record {
+      live = subst (λ (o : Option Named). IsSome o) (sym there.named) refl;
+      here = ap path_in there.named ∙ same;
+      some = ap (λ p. is_some (tree_of (nodes_of entries) p)) (sym same) ∙ ap (λ (o : Option NodeRecord). is_some o) found;
+    })
+
+-- the node of a name in a directory
+pub child_found : (entries there : List (Option Entry)) (nodes : List (Option Named)) (dir : ℕ) (name : List ℕ) (n : ℕ) → nodes_of entries ≡ nodes → IsKept entries → IsLive nodes dir → 0 < length name → there ≡ entries → position (is_child dir name) there ≡ Some n → IsAt nodes (path_of nodes dir ++ name ∷ []) n
+child_found entries there nodes dir name n view kept live named same found =
+    let here = position-Some (is_child dir name) entries n None (ap (position (is_child dir name)) (sym same) ∙ found) in
+    let child = child_parts dir name (entry_at entries n) here.1 in
+    let above = some_entry (entry_at entries dir) (live_entry entries nodes dir view live) in
+    let dir_at = placed entries dir above.0 kept above.1 in
+    let node_at = placed entries n child.0 kept child.1 in
+    let dir_path : path_of nodes dir ≡ dir_at.path = ap (λ ns. path_of ns dir) (sym view) ∙ ap path_in dir_at.named in
+    let path_here : node_at.path ≡ dir_at.path ++ name ∷ [] = elim (path_is (length entries) entries n node_at.path node_at.up) [
+      | inl root ↦
+          let one : kept.root.0 ≡ child.0 = let both : Some kept.root.0 ≡ Some child.0 = sym kept.root.1 ∙ ap (entry_at entries) (sym root.here) ∙ child.1 in cc in
+          absurd (omega (arith, named, ap (λ (x : List ℕ). length x) (sym child.3), ap (λ (x : Entry). length x.name) (sym one), ap (λ (x : List ℕ). length x) kept.root.2))
+      | inr below ↦
+          let one : below.entry ≡ child.0 = let both : Some below.entry ≡ Some child.0 = sym below.at ∙ child.1 in cc in
+          let up : path_up below.more entries dir ≡ Some below.above = subst (λ (d : ℕ). path_up below.more entries d ≡ Some below.above) (ap (λ (x : Entry). x.dir) one ∙ child.2) below.up in
+          let more : path_up (length entries) entries dir ≡ Some below.above = enough_fuel (length entries) below.more entries dir below.above (omega (arith, below.enough)) up in
+          let above_is : below.above ≡ dir_at.path = let both : Some below.above ≡ Some dir_at.path = sym more ∙ dir_at.up in cc in
+          below.whole ∙ ap (λ (q : List (List ℕ)). q ++ (below.entry).name ∷ []) above_is ∙ ap (λ (x : List ℕ). dir_at.path ++ x ∷ []) (ap (λ (x : Entry). x.name) one ∙ child.3)
+    ] in
+    rw dir_path (at_path entries nodes n child.0 (dir_at.path ++ name ∷ []) view kept child.1 (node_at.up ∙ ap (λ (q : List (List ℕ)). Some q) path_here))
+
+none_here : (entries : List (Option Entry)) (dir : ℕ) (name : List ℕ) → IsKept entries → IsLive (nodes_of entries) dir → position (is_child dir name) entries ≡ None → tree_of (nodes_of entries) (path_of (nodes_of entries) dir ++ name ∷ []) ≡ None
+none_here entries dir name kept live none =
+    let above = some_entry (entry_at entries dir) (live_entry entries (nodes_of entries) dir refl live) in
+    let dir_at = placed entries dir above.0 kept above.1 in
+    let dir_path : path_of (nodes_of entries) dir ≡ dir_at.path = ap path_in dir_at.named in
+    let path : List (List ℕ) = path_of (nodes_of entries) dir ++ name ∷ [] in
+    elim (tree_of (nodes_of entries) (path_of (nodes_of entries) dir ++ name ∷ [])) as (λ o. tree_of (nodes_of entries) (path_of (nodes_of entries) dir ++ name ∷ []) ≡ o → o ≡ None) [
+      | None ↦ λ e. refl
+      | Some node ↦ λ e.
+          let found = found_at (nodes_of entries) (path_of (nodes_of entries) dir ++ name ∷ []) node e in
+          let is = listed entries found.place found.named found.at in
+          absurd (elim (path_is (length entries) entries found.place found.named.path is.up) [
+            | inl root ↦ omega (arith, ap (λ (x : List (List ℕ)). length x) (sym root.whole ∙ found.path_is), length-append (path_of (nodes_of entries) dir) (name ∷ []))
+            | inr below ↦
+                let both = snoc_same below.above (path_of (nodes_of entries) dir) (below.entry).name name (sym below.whole ∙ found.path_is) in
+                let same_dir : (below.entry).dir ≡ dir = one_node below.more (length entries) entries (below.entry).dir dir below.above kept below.up (dir_at.up ∙ ap (λ (q : List (List ℕ)). Some q) (sym dir_path ∙ sym both.0)) in
+                let yes : is_child dir name (entry_at entries found.place) ≡ true = ap (is_child dir name) below.at ∙ ap (λ b. b && bytes_eq (below.entry).name name) (eq-eqb (below.entry).dir dir same_dir) ∙ (bytes_eq-Decides (below.entry).name name).1 both.1 in
+                let no_one : is_child dir name (entry_at entries found.place) ≡ false = all_fail (is_child dir name) entries found.place None none (live_within entries found.place below.entry below.at) in
+                let wrong : true ≡ false = sym yes ∙ no_one in
+                cc
+          ])
+    ] refl
+
+-- a name that no node has in a directory
+pub child_none : (entries there : List (Option Entry)) (nodes : List (Option Named)) (dir : ℕ) (name : List ℕ) → nodes_of entries ≡ nodes → IsKept entries → IsLive nodes dir → there ≡ entries → position (is_child dir name) there ≡ None → tree_of nodes (path_of nodes dir ++ name ∷ []) ≡ None
+child_none entries there nodes dir name view kept live same none = subst (λ ns. tree_of ns (path_of ns dir ++ name ∷ []) ≡ None) view (none_here entries dir name kept (subst (λ ns. IsLive ns dir) (sym view) live) (ap (position (is_child dir name)) (sym same) ∙ none))
+
+-- a node with a path has an entry
+listed_dir : (k : ℕ) (entries : List (Option Entry)) (n : ℕ) (path : List (List ℕ)) → path_up k entries n ≡ Some path → (entry : Entry) × (entry_at entries n ≡ Some entry)
+listed_dir k entries n path up = elim (path_is k entries n path up) [
+  | inl root ↦ (root.entry, root.at)
+  | inr below ↦ (below.entry, below.at)
+]
+
+-- the directory of a node
+pub dir_of : (entries : List (Option Entry)) (nodes : List (Option Named)) (n : ℕ) (entry : Entry) → nodes_of entries ≡ nodes → IsKept entries → entry_at entries n ≡ Some entry → n ≢ 0 → IsAt nodes (parent_of (path_of nodes n)) entry.dir
+dir_of entries nodes n entry view kept at other =
+    let there = placed entries n entry kept at in
+    let path_here : path_of nodes n ≡ there.path = ap (λ ns. path_of ns n) (sym view) ∙ ap path_in there.named in
+    elim (path_is (length entries) entries n there.path there.up) [
+      | inl root ↦ absurd (other root.here)
+      | inr below ↦
+          let one : below.entry ≡ entry = let both : Some below.entry ≡ Some entry = sym below.at ∙ at in cc in
+          let up : path_up below.more entries entry.dir ≡ Some below.above = subst (λ (x : Entry). path_up below.more entries x.dir ≡ Some below.above) one below.up in
+          let more : path_up (length entries) entries entry.dir ≡ Some below.above = enough_fuel (length entries) below.more entries entry.dir below.above (omega (arith, below.enough)) up in
+          let parent : parent_of there.path ≡ below.above = rw below.whole (
+              let size : length (below.above ++ (below.entry).name ∷ []) - 1 ≡ length below.above = omega (arith, length-append below.above ((below.entry).name ∷ [])) in
+              rw size (take-append-le (length below.above) below.above ((below.entry).name ∷ []) (omega arith) ∙ take-length below.above)) in
+          let dir_entry = listed_dir below.more entries entry.dir below.above up in
+          rw (path_here, parent) (at_path entries nodes entry.dir dir_entry.0 below.above view kept dir_entry.1 more)
+    ]
+
+-- a node is what is at its path
+pub what_is_there : (entries : List (Option Entry)) (nodes : List (Option Named)) (n : ℕ) (entry : Entry) → nodes_of entries ≡ nodes → IsKept entries → entry_at entries n ≡ Some entry → tree_of nodes (path_of nodes n) ≡ Some (record_in entry)
+what_is_there entries nodes n entry view kept at = subst (λ ns. tree_of ns (path_of ns n) ≡ Some (record_in entry)) view (
+    let there = placed entries n entry kept at in
+    ap (tree_of (nodes_of entries)) (ap path_in there.named) ∙ at_its_path (nodes_of entries) n (record { path = there.path; node = record_in entry }) (paths_apart entries kept) there.named)
+
+-- the root is in itself
+pub root_dir : (entries : List (Option Entry)) (nodes : List (Option Named)) (n : ℕ) → nodes_of entries ≡ nodes → IsKept entries → n ≡ 0 → IsAt nodes (parent_of (path_of nodes n)) n
+root_dir entries nodes n view kept zero_is =
+    let up : path_up (length entries) entries 0 ≡ Some [] = subst (λ k. path_up k entries 0 ≡ Some []) (sym kept.size) (root_path 1023 entries kept.root.0 kept.root.1) in
+    let at = at_path entries nodes 0 kept.root.0 [] view kept kept.root.1 up in
+    rw zero_is (rw at.here at)
+
+pub parent_at : (entries there : List (Option Entry)) (nodes : List (Option Named)) (n : ℕ) (entry : Entry) → nodes_of entries ≡ nodes → IsKept entries → there ≡ entries → entry_at there n ≡ Some entry → n ≢ 0 → IsAt nodes (parent_of (path_of nodes n)) entry.dir
+parent_at entries there nodes n entry view kept same at other = dir_of entries nodes n entry view kept (ap (λ (es : List (Option Entry)). entry_at es n) (sym same) ∙ at) other
