@@ -6,7 +6,7 @@ use std::marker::Model;
 /// The name of a node of the file tree. Contracts see its number.
 ///
 /// Only the tree makes names that are live. The root's number is 0.
-#[derive(Clone, Copy, Debug, PartialEq, Eq)]
+#[derive(Clone, Copy, Debug, Default, PartialEq, Eq)]
 pub struct Node {
     number: u16,
 }

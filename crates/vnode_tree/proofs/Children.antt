@@ -129,3 +129,8 @@ root_dir entries nodes n view kept zero_is =
 
 pub parent_at : (entries there : List (Option Entry)) (nodes : List (Option Named)) (n : ℕ) (entry : Entry) → nodes_of entries ≡ nodes → IsKept entries → there ≡ entries → entry_at there n ≡ Some entry → n ≢ 0 → IsAt nodes (parent_of (path_of nodes n)) entry.dir
 parent_at entries there nodes n entry view kept same at other = dir_of entries nodes n entry view kept (ap (λ (es : List (Option Entry)). entry_at es n) (sym same) ∙ at) other
+
+-- the root is live, at the empty path
+pub root_at : (entries : List (Option Entry)) (nodes : List (Option Named)) → nodes_of entries ≡ nodes → IsKept entries → IsAt nodes [] 0
+root_at entries nodes view kept =
+    at_path entries nodes 0 kept.root.0 [] view kept kept.root.1 (subst (λ k. path_up k entries 0 ≡ Some []) (sym kept.size) (root_path 1023 entries kept.root.0 kept.root.1))

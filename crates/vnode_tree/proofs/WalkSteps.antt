@@ -1,7 +1,7 @@
 -- One step of a walk.
 use Rattle.std.proofs.Common.{◌≡◌, ◌≢◌, ℕ, ◌+◌, ◌<◌, ◌≤◌, Bool, true, false, List, [], ◌∷◌, ◌++◌, length, refl, sym, ap, ◌∙◌, arith, ltb, lt-ltb, le-ltb}
-use Rattle.std.specs.Prelude.{is_some}
-use Rattle.access_rule.specs.Tree.{Tree, Walked, walk_from, ended, passing, found, name_long, not_dir, absent_end, parent_of, is_parent, is_dir_record}
+use Rattle.std.specs.Prelude.{is_some, ◌==◌}
+use Rattle.access_rule.specs.Tree.{Tree, Walked, walk, walk_from, begin_at, steps, missing, path_long, ended, passing, found, name_long, not_dir, absent_end, parent_of, is_parent, is_dir_record}
 
 pub walk_done : (tree : Tree) (here : List (List ℕ)) → walk_from tree here [] ≡ ended (found here)
 unfolding walk_from
@@ -26,3 +26,16 @@ walk_down tree here part parts short dir down some = rw (le-ltb 255 (length part
 pub walk_absent : (tree : Tree) (here : List (List ℕ)) (part : List ℕ) (parts : List (List ℕ)) → length part ≤ 255 → is_dir_record (tree here) ≡ true → is_parent part ≡ false → is_some (tree (here ++ part ∷ [])) ≡ false → walk_from tree here (part ∷ parts) ≡ passing here (ended (absent_end here part parts))
 unfolding walk_from
 walk_absent tree here part parts short dir down none = rw (le-ltb 255 (length part) short, dir, down, none) refl
+
+-- a whole walk
+pub walk_too_long : (tree : Tree) (here : List (List ℕ)) (text : List ℕ) → 1023 < length text → walk tree here text ≡ ended path_long
+unfolding walk
+walk_too_long tree here text long = rw (lt-ltb 1023 (length text) long) refl
+
+pub walk_nothing : (tree : Tree) (here : List (List ℕ)) (text : List ℕ) → length text ≤ 1023 → (length text == 0) ≡ true → walk tree here text ≡ ended missing
+unfolding walk
+walk_nothing tree here text short none = rw (le-ltb 1023 (length text) short, none) refl
+
+pub walk_whole : (tree : Tree) (here : List (List ℕ)) (text : List ℕ) → length text ≤ 1023 → (length text == 0) ≡ false → walk tree here text ≡ walk_from tree (begin_at here text) (steps text)
+unfolding walk
+walk_whole tree here text short some = rw (le-ltb 1023 (length text) short, some) refl

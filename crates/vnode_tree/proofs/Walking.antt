@@ -1,5 +1,5 @@
 -- A walk on its way.
-use Rattle.std.proofs.Common.{◌≡◌, ◌≢◌, ◌⊎◌, ℕ, suc, ◌+◌, ◌<◌, ◌≤◌, Bool, true, false, List, [], ◌∷◌, ◌++◌, length, map, Option, Some, None, refl, sym, ap, ◌∙◌, arith, subst, length-append}
+use Rattle.std.proofs.Common.{◌≡◌, ◌≢◌, ◌⊎◌, ℕ, suc, ◌+◌, ◌<◌, ◌≤◌, Bool, true, false, List, [], ◌∷◌, ◌++◌, length, map, Option, Some, None, refl, sym, ap, ap₂, ◌∙◌, arith, subst, length-append}
 use Rattle.std.specs.Prelude.{All, IsSome, is_some}
 use Rattle.std.proofs.lemmas.List.{append-nil}
 use Rattle.std.proofs.lemmas.List.Elements.{All-push}
@@ -77,3 +77,7 @@ goes_down nodes whole before here next part steps passed w short dir down at =
 pub lacks : (nodes : List (Option Named)) (whole : Walked) (before : List ℕ) (here : ℕ) (part : List ℕ) (steps : List (List ℕ)) (passed : List ℕ) → Walking nodes whole before here (part ∷ steps) passed → length part ≤ 255 → is_dir_record (tree_of nodes (path_of nodes here)) ≡ true → is_parent part ≡ false → tree_of nodes (path_of nodes here ++ part ∷ []) ≡ None → Passes whole (map (path_of nodes) before) (map (path_of nodes) (passed ++ here ∷ [])) (absent_end (path_of nodes here) part steps)
 lacks nodes whole before here part steps passed w short dir down none =
     walk_lacks nodes whole before here part steps passed (absent_end (path_of nodes here) part steps) w (walk_absent (tree_of nodes) (path_of nodes here) part steps short dir down (some_true (tree_of nodes (path_of nodes here ++ part ∷ [])) none))
+
+-- a walk that began with nothing passed
+pub whole_walk : (nodes : List (Option Named)) (passed : List ℕ) (whole : Walked) (end : WalkEnd) → Passes whole (map (path_of nodes) []) (map (path_of nodes) passed) end → record { passed = map (path_of nodes) passed; end = end } ≡ whole
+whole_walk nodes passed whole end p = ap₂ (λ (ps : List (List (List ℕ))) (e : WalkEnd). record { passed = ps; end = e }) p.passed p.ends

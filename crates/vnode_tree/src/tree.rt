@@ -50,6 +50,15 @@ impl Model for Tree {
 }
 
 impl Tree {
+    /// The root.
+    pub fn root(&self) -> Node
+        ensures live { IsLive self.now result }
+        ensures path { path_of self.now result ≡ [] }
+    {
+        let _ = &self.entries;
+        Node::ROOT
+    }
+
     /// Whether a node is a directory. The node is live.
     #[tactic(auto, using(crate::proofs::Looks::live_entry, crate::proofs::Children::what_is_there))]
     pub(crate) fn is_dir(&self, node: Node) -> bool

@@ -1,6 +1,6 @@
 //! The walk of a path.
 ghost use Rattle.std.specs.Prelude.{◌≡◌, ◌≤◌, ◌+◌, ℕ, List, map, ◌++◌, length, All, Option};
-ghost use Rattle.access_rule.specs.Tree.{Walked, walk, walk_from, is_parent, absent_end};
+ghost use Rattle.access_rule.specs.Tree.{Walked, walk, walk_from, is_parent, absent_end, begin_at};
 ghost use Rattle.vnode_tree.specs.Nodes.{Named, IsLive, path_of, tree_of};
 ghost use Rattle.vnode_tree.specs.Walks.{seen, seen_end, IsLiveEnd, Passes};
 
@@ -13,6 +13,9 @@ use call_words::{Node, PathText};
 
 /// How many parts a path of 1,023 bytes has at most.
 pub const MOST_PARTS: usize = 512;
+
+/// How many bytes a path has at most that is walked.
+pub const LONGEST_PATH: usize = 1023;
 
 /// Where a walk ends.
 #[derive(Drop)]
@@ -94,5 +97,48 @@ impl Tree {
             }
         }
         End::Found(here)
+    }
+
+    /// Walks a path from a directory, or from the root where its first byte is a slash.
+    ///
+    /// It ends at a node, at a directory without the name of the last part, or at the first part that fails: a path of
+    /// over 1,023 bytes or an empty one, a part of over 255 bytes, a part below a node that is no directory, or a part
+    /// that is absent and not the last. It notes the directories in which a part was looked for, so that a caller can
+    /// check each of them in order. The node is live.
+    pub fn walk(&self, cwd: Node, path: &PathText) -> Walk
+        requires { IsLive self.now cwd }
+        ensures walked { seen self.now result ≡ walk (tree_of self.now) (path_of self.now cwd) path.now }
+        ensures lives { All (IsLive self.now) result.passed.items }
+        ensures live_end { IsLiveEnd self.now result.end }
+    {
+        let mut passed = ArrayVec::new();
+        let bytes = path.as_slice();
+        if bytes.len() > LONGEST_PATH {
+            return Walk {
+                passed,
+                end: End::PathLong,
+            };
+        }
+        if bytes.is_empty() {
+            return Walk {
+                passed,
+                end: End::Missing,
+            };
+        }
+        let from = self.begin_at(cwd, bytes);
+        let end = self.walk_from(from, &mut Steps::new(bytes), &mut passed);
+        Walk { passed, end }
+    }
+
+    /// The node at which a path begins.
+    fn begin_at(&self, cwd: Node, path: &[u8]) -> Node
+        requires { IsLive self.now cwd }
+        ensures live { IsLive self.now result }
+        ensures begins { path_of self.now result ≡ begin_at (path_of self.now cwd) path.now }
+    {
+        match path.first() {
+            Some(b'/') => self.root(),
+            _ => cwd,
+        }
     }
 }
