@@ -234,10 +234,10 @@ impl Run {
         self.end_line(out)
     }
 
-    /// Takes all of a source.
-    pub fn run_source<S: Source, K: Sink>(&mut self, src: &mut S, out: &mut K) -> Status
+    /// Takes all of a source, and ends the run.
+    pub fn run_source<S: Source, K: Sink>(mut self, src: &mut S, out: &mut K) -> Status
         ensures writes { (text : List ℕ) → S.left src.old ≡ Some text →
-            Writes result (to_come self.old text) (K.written out.old) (K.written out.new) }
+            Writes result (to_come self text) (K.written out.old) (K.written out.new) }
         ensures all { (text : List ℕ) → S.left src.old ≡ Some text → result ≡ Status.Done → S.left src.new ≡ Some [] }
         ensures read_fault { result ≡ Status.ReadFault → Rose (S.faults src.old) (S.faults src.new) }
         ensures write_fault { result ≡ Status.WriteFault → Rose (K.faults out.old) (K.faults out.new) }
