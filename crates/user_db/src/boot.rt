@@ -13,7 +13,8 @@ pub const TTYS: usize = 8;
 /// What a machine is told before its first event.
 #[derive(Debug, Drop)]
 pub struct Boot {
-    /// Whether each read and write checks the labels anew, and not the open alone.
+    /// Whether each read and write of a file or a line checks the labels anew, and not the open
+    /// alone.
     pub recheck: bool,
     /// The users, in the order of the text.
     pub users: Users,
