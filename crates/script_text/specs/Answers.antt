@@ -1,7 +1,6 @@
 -- The answers to events, as lines.
 use Rattle.std.specs.Prelude.{ℕ, ◌==◌, List, [], ◌++◌, length, flat_map, if◌then◌else◌, codes}
 use Rattle.std.specs.Fmt.{decimal}
-use Rattle.hex.specs.Hex.{encode_lower}
 use Rattle.call_words.specs.Rules.{errno_of, rule_word, errno_word}
 use Rattle.call_words.specs.declared.events.Event.{Event}
 use Rattle.call_words.specs.declared.events.Event.TheVariants as event
@@ -9,11 +8,8 @@ use Rattle.call_words.specs.declared.events.Reply.{Reply}
 use Rattle.call_words.specs.declared.events.Reply.TheVariants.{Num, Bytes, Denied, Gone}
 use Rattle.call_words.specs.declared.events.Decision.{Decision}
 use Rattle.call_words.specs.declared.events.Decision.TheVariants.{Answer, Taken, Noted}
-use Rattle.machine_model.specs.Step.{WakeList}
-
--- pairs of hex digits in lower case, and a dash for no bytes
-unfoldable pub hex_word : List ℕ → List ℕ
-hex_word bs = if length bs == 0 then codes "-" else encode_lower bs
+use Rattle.call_words.specs.Events.{WakeList}
+use Rattle.script_text.specs.Words.{hex_word}
 
 abbrev pub reply_text : Reply → List ℕ
 reply_text (Num n) = codes "ok " ++ decimal n

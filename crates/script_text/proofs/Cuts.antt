@@ -6,7 +6,7 @@ use Rattle.std.specs.List.{slice_split, position_or_len}
 use Rattle.std.proofs.lemmas.List.{drop-drop}
 use Rattle.std.proofs.lemmas.List.Splits.{slice_split_none, slice_split_first}
 use Rattle.std.proofs.lemmas.List.Sums.{fails_before_first}
-use Rattle.machine_model.specs.Words.{words, is_blank}
+use Rattle.script_text.specs.Words.{words, is_blank}
 
 -- a line without a blank is one word
 pub words_one : (l : List ℕ) → position is_blank l ≡ None → words l ≡ l ∷ []

@@ -1,6 +1,6 @@
 -- The words of what is left of a line.
 use Rattle.std.specs.Prelude.{ℕ, List, [], ◌∷◌, Option, Some, None}
-use Rattle.machine_model.specs.Words.{words}
+use Rattle.script_text.specs.Words.{words}
 
 -- none where nothing is left, not even an empty word
 abbrev pub words_after : Option (List ℕ) → List (List ℕ)

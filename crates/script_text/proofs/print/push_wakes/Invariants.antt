@@ -1,7 +1,7 @@
 use Rattle.std.proofs.Common.{◌≡◌, ◌+◌, ◌*◌, ◌≤◌, ◌++◌, length, take}
 use Rattle.std.specs.Prelude.{flat_map, codes}
 use Rattle.std.specs.Fmt.{decimal}
-use Rattle.tty_host.proofs.print.push_wakes.Given as goal
+use Rattle.script_text.proofs.print.push_wakes.Given as goal
 
 -- the slots so far are written
 abbrev pub invariant-loop-slot : goal.invariant-loop-slot
