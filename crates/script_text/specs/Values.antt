@@ -1,6 +1,7 @@
 -- The value that a word of each kind has.
 use Rattle.std.specs.Prelude.{ℕ, ◌+◌, ◌^◌, Bool, false, not, ◌&&◌, ◌||◌, ◌==◌, List, [], ◌∷◌, ◌++◌, length, take, drop, count_by, Option, Some, None, nat_lt, nat_le, if◌then◌else◌, codes}
 use Rattle.std.specs.List.{list_all}
+use Rattle.std.specs.Fmt.{decimal, digits}
 use Rattle.std.specs.Str.{bytes_eq, byte}
 use Rattle.call_words.specs.declared.limits.TheConstants.{SLOTS, LINES}
 use Rattle.call_words.specs.declared.text.TheConstants.{PIECE_BYTES}
@@ -78,3 +79,26 @@ unfoldable pub flags_of : List ℕ → Option OpenFlags
 flags_of w =
     if bytes_eq w (codes "-") then Some no_flags
     else only_if (not (length w == 0) && are_flags w) (Some (flags_in w))
+
+-- the words that are printed of lines, modes, accesses and flags
+abbrev pub line_word : ℕ → List ℕ
+line_word line = codes "tty" ++ decimal line
+
+abbrev pub mode_word : ℕ → List ℕ
+mode_word mode = digits 8 false mode
+
+abbrev pub access_word : Access → List ℕ
+access_word access.Read = codes "r"
+access_word access.Write = codes "w"
+access_word access.ReadWrite = codes "rw"
+
+abbrev pub letter_if : Bool → ℕ → List ℕ
+letter_if on letter = if on then letter ∷ [] else []
+
+abbrev pub letters_of : OpenFlags → List ℕ
+letters_of f =
+    letter_if f.create (byte "c") ++ letter_if f.exclusive (byte "x") ++ letter_if f.truncate (byte "t")
+    ++ letter_if f.append (byte "a") ++ letter_if f.nonblock (byte "n") ++ letter_if f.on_exec (byte "e")
+
+unfoldable pub flags_word : OpenFlags → List ℕ
+flags_word f = if length (letters_of f) == 0 then codes "-" else letters_of f

@@ -6,6 +6,7 @@
 #![tactic(auto)]
 
 mod events;
+mod laws;
 mod numbers;
 mod paths;
 mod print;
@@ -14,5 +15,6 @@ mod values;
 mod words;
 
 pub use events::Events;
+pub use laws::{one_grammar, paths_are_read_as_spelled, words_are_read_back};
 pub use print::{ANSWER_BYTES, AnswerLine, print_answer, push_bytes, push_number};
 pub use read::read_event_line;
