@@ -1,5 +1,5 @@
 -- Lines are read by the grammar: what is read is said so, and what is said so is read.
-use Rattle.std.proofs.Common.{◌≡◌, ◌⊎◌, ℕ, ◌<◌, ◌≤◌, Bool, true, false, not, cond, eqb, leb, List, [], ◌∷◌, length, Option, Some, None, option_map, option_and_then, refl, sym, ap, subst, ◌∙◌, arith, inl, inr}
+use Rattle.std.proofs.Common.{◌≡◌, ℕ, ◌<◌, Bool, true, false, not, eqb, leb, List, [], ◌∷◌, length, Option, Some, None, option_map, option_and_then, refl, sym, subst, arith, inl, inr}
 use Rattle.std.specs.Prelude.{codes}
 use Rattle.std.specs.Str.{bytes_eq}
 use Rattle.std.proofs.lemmas.Bool.{eqb-false, leb-true, le-leb, ne_eqb, not-true, false_from_ne_true}
@@ -13,8 +13,13 @@ use Rattle.script_text.specs.Words.{words, only_if, number_below, bytes_of_word}
 use Rattle.script_text.specs.Paths.{path_of}
 use Rattle.script_text.specs.Values.{slot_of, line_of, fd_of, max_of, taken_of, access_of, flags_of, mode_of, no_flags, default_mode}
 use Rattle.script_text.specs.Reading.{open_with, open_of, close_of, read_of, write_of, revoke_of, call_of, arrivals, in_of, take_of, slot_call_of, events_of_words, events_of_line}
-use Rattle.script_text.specs.Grammar.{Says, IsUnsaid, SayAll, call_fields, in_fields, fields, Ask, asks_call, asks_take, asks_bytes, IsLine, name, slot, line, path, access, flags, mode, fd, max, taken, bytes}
-use Rattle.script_text.proofs.Chosen.{chosen, stepped, mapped, same_text, text_is}
+use Rattle.script_text.specs.Grammar.{SayAll, call_fields, Ask, asks_call, asks_take, asks_bytes, IsLine, flags, mode}
+use Rattle.script_text.proofs.Chosen.{chosen, stepped, mapped, same_text}
+
+-- what is said of an open is said of the call that it is
+opened : (n p a : List ℕ) (more : List (List ℕ)) (x : List ℕ) (y : Access) (f : OpenFlags) (m : ℕ) (c : Call) → Open x y f m ≡ c
+    → SayAll (call_fields (Open x y f m)) (n ∷ p ∷ a ∷ more) → SayAll (call_fields c) (n ∷ p ∷ a ∷ more)
+opened n p a more x y f m c e h = subst (λ (c : Call). SayAll (call_fields c) (n ∷ p ∷ a ∷ more)) e h
 
 -- the words that an open was read from
 open_with_said : (n p a : List ℕ) (F : Option OpenFlags) (M : Option ℕ) (c : Call) (more : List (List ℕ)) → n ≡ codes "open"
@@ -25,7 +30,7 @@ open_with_said n p a F M c more named said e =
     let t = stepped (λ (y : Access). option_and_then (λ (f : OpenFlags). option_map (λ (m : ℕ). Open s.value y f m) M) F) (access_of a) c s.gives in
     let u = stepped (λ (f : OpenFlags). option_map (λ (m : ℕ). Open s.value t.value f m) M) F c t.gives in
     let v = mapped (λ (m : ℕ). Open s.value t.value u.value m) M c u.gives in
-    subst (λ (c : Call). SayAll (call_fields c) (n ∷ p ∷ a ∷ more)) v.gives (named, (s.was, (t.was, said u.value v.value u.was v.was)))
+    opened n p a more s.value t.value u.value v.value c v.gives (named, (s.was, (t.was, said u.value v.value u.was v.was)))
 
 open_said : (n : List ℕ) (ws : List (List ℕ)) (c : Call) → n ≡ codes "open" → open_of ws ≡ Some c → SayAll (call_fields c) (n ∷ ws)
 open_said n [] c named e = absurd cc

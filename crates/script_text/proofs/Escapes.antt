@@ -1,5 +1,5 @@
 -- Paths, read from the front.
-use Rattle.std.proofs.Common.{◌≡◌, ℕ, ◌≤◌, ◌<◌, ◌↔◌, leb, List, [], ◌∷◌, ◌++◌, length, Option, Some, None, IsSome, IfSome, option_map, refl, sym, ap, ◌∙◌, arith, append-nil}
+use Rattle.std.proofs.Common.{◌≡◌, ℕ, ◌≤◌, ◌↔◌, List, [], ◌∷◌, ◌++◌, length, Option, Some, None, IsSome, IfSome, option_map, ap, ◌∙◌, arith, append-nil}
 use Rattle.std.proofs.lemmas.Bool.{le-leb}
 use Rattle.script_text.specs.Paths.{unescaped, if_short}
 

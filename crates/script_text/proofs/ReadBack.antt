@@ -1,12 +1,12 @@
 -- The words that are printed are read as the values that they were printed of.
-use Rattle.std.proofs.Common.{◌≡◌, ◌≢◌, ℕ, zero, suc, ◌+◌, ◌*◌, ◌/◌, ◌%◌, ◌^◌, ◌<◌, ◌≤◌, Bool, true, false, not, ◌&&◌, ◌||◌, cond, eqb, leb, ltb, List, [], ◌∷◌, ◌++◌, length, get_or, take, drop, flat_map, Option, Some, None, Ok, refl, sym, ap, ◌∙◌, arith, rules, inl, inr}
+use Rattle.std.proofs.Common.{◌≡◌, ℕ, zero, suc, ◌*◌, ◌/◌, ◌%◌, ◌^◌, ◌<◌, ◌≤◌, Bool, true, false, ◌&&◌, cond, eqb, ltb, List, [], ◌∷◌, ◌++◌, length, get_or, flat_map, Option, Some, None, Ok, refl, sym, ap, ◌∙◌, arith, rules}
 use Rattle.std.specs.Prelude.{codes}
 use Rattle.std.specs.Char.{digit_value}
 use Rattle.std.specs.Fmt.{decimal, digits}
 use Rattle.std.specs.List.{list_all, AllByRecursion}
 use Rattle.std.specs.Str.{bytes_eq}
 use Rattle.std.specs.Str.Parse.{digits_value}
-use Rattle.std.proofs.lemmas.Bool.{and_from, not_from_false, le-ltb, lt-ltb, le-leb, lt-leb, eq-eqb, ne_eqb, eqb-true, false_from_ne_true, and_left, and_right, agree_below_at}
+use Rattle.std.proofs.lemmas.Bool.{le-ltb, lt-ltb, ne_eqb, eqb-true, false_from_ne_true, and_right, agree_below_at}
 use Rattle.std.proofs.lemmas.Fmt.{digits_decimal, digits_value-decimal, decimal_nonempty, first_decimal, decimal_digit}
 use Rattle.std.proofs.lemmas.Str.Parse.{IsNumeralModel, numerals_by_value}
 use Rattle.hex.specs.Hex.{IsBytes, lower_digits, encode_with, encode_lower, decode_of}
@@ -14,9 +14,9 @@ use Rattle.hex.proofs.HexLemmas.{decode_of-encode_lower, length-encode_with}
 use Rattle.call_words.specs.declared.calls.Access.{Access}
 use Rattle.call_words.specs.declared.calls.Access.TheVariants as access
 use Rattle.call_words.specs.declared.calls.OpenFlags.{OpenFlags}
-use Rattle.script_text.specs.Words.{is_digit, is_number, number_below, bytes_of_word, hex_word}
+use Rattle.script_text.specs.Words.{is_digit, number_below, bytes_of_word, hex_word}
 use Rattle.script_text.specs.Paths.{is_plain, pair_value, escaped_byte, path_of, path_word}
-use Rattle.script_text.specs.Spelling.{Part, plain, escaped, IsPart, IsSpelled, lone_sign, by_parts}
+use Rattle.script_text.specs.Spelling.{plain, escaped, IsSpelled, by_parts}
 use Rattle.script_text.specs.Values.{line_of, mode_of, access_of, flags_of, line_word, mode_word, access_word, flags_word}
 use Rattle.script_text.specs.Grammar.{Field, Fits, Says, word_of, IsByte, name, slot, line, path, access, flags, mode, fd, max, taken, bytes}
 use Rattle.script_text.proofs.Chosen.{same_text}
@@ -137,17 +137,17 @@ printed_spells (b ∷ bs) h =
     let value : pair_value high low ≡ b = omega (arith, first, second) in
     elim (is_plain b) as (λ t. is_plain b ≡ t → IsSpelled (cond t (b ∷ []) (37 ∷ encode_lower (b ∷ [])) ++ flat_map escaped_byte bs) (b ∷ bs)) [
       | true ↦ λ e. record {
-          parts = plain b ∷ rest.parts;
-          valid = (e, rest.valid);
-          spelling = ap (λ t. b ∷ t) rest.spelling;
-          meaning = ap (λ t. b ∷ t) rest.meaning;
-        }
+        parts = plain b ∷ rest.parts;
+        valid = (e, rest.valid);
+        spelling = ap (λ t. b ∷ t) rest.spelling;
+        meaning = ap (λ t. b ∷ t) rest.meaning;
+      }
       | false ↦ λ e. record {
-          parts = escaped high low ∷ rest.parts;
-          valid = ((omega (arith, first), omega (arith, second), ap is_plain value ∙ e), rest.valid);
-          spelling = ap (λ (t : List ℕ). 37 ∷ high ∷ low ∷ t) rest.spelling;
-          meaning = ap (λ c. c ∷ bs) (sym value) ∙ ap (λ (t : List ℕ). pair_value high low ∷ t) rest.meaning;
-        }
+        parts = escaped high low ∷ rest.parts;
+        valid = ((omega (arith, first), omega (arith, second), ap is_plain value ∙ e), rest.valid);
+        spelling = ap (λ (t : List ℕ). 37 ∷ high ∷ low ∷ t) rest.spelling;
+        meaning = ap (λ c. c ∷ bs) (sym value) ∙ ap (λ (t : List ℕ). pair_value high low ∷ t) rest.meaning;
+      }
     ] refl
 
 some_printed : (b : ℕ) (bs : List ℕ) → path_word (b ∷ bs) ≡ flat_map escaped_byte (b ∷ bs)

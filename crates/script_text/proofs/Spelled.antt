@@ -1,10 +1,10 @@
 -- Paths are read as they are spelled.
-use Rattle.std.proofs.Common.{◌≡◌, ◌⊎◌, ℕ, ◌<◌, ◌≤◌, Bool, true, false, not, ◌&&◌, cond, eqb, leb, ltb, List, [], ◌∷◌, ◌++◌, length, map, flat_map, Option, Some, None, option_map, option_and_then, refl, sym, ap, ◌∙◌, arith, inl, inr}
+use Rattle.std.proofs.Common.{◌≡◌, ℕ, ◌<◌, ◌≤◌, Bool, true, false, not, ◌&&◌, cond, eqb, leb, ltb, List, [], ◌∷◌, length, map, flat_map, Option, Some, None, refl, sym, ap, ◌∙◌, arith, inl, inr}
 use Rattle.std.specs.Prelude.{codes}
 use Rattle.std.specs.Char.{digit_value}
 use Rattle.std.specs.List.{AllByRecursion}
 use Rattle.std.specs.Str.{bytes_eq}
-use Rattle.std.proofs.lemmas.Bool.{and_parts, and_from, not-true, not_from_false, not_from_true, eqb-true, eqb-false, leb-true, ltb-true, lt-ltb, le-leb, ne_eqb}
+use Rattle.std.proofs.lemmas.Bool.{and_parts, and_from, not-true, not_from_false, eqb-true, eqb-false, leb-true, ltb-true, lt-ltb, le-leb, ne_eqb}
 use Rattle.script_text.specs.Words.{only_if}
 use Rattle.script_text.specs.Paths.{is_plain, pair_value, escape_value, plain_value, then_bytes, unescaped, if_short, path_of}
 use Rattle.script_text.specs.Spelling.{Part, plain, escaped, IsPart, spelled, meant, IsSpelled, WritesPath, lone_sign, by_parts}
@@ -135,7 +135,6 @@ written_is_read word path (lone_sign w p) = rw (w, p) refl
 written_is_read word path (by_parts some short h) =
     let tests = parts_some h.parts h.valid (rw h.meaning at some) in
     let read : unescaped word ≡ Some path = ap unescaped h.spelling ∙ read_parts h.parts h.valid ∙ ap (λ bs. Some bs) (sym h.meaning) in
-    
     let no_sign : bytes_eq word (codes "%") ≡ false = ap (λ t. bytes_eq t (codes "%")) h.spelling ∙ tests.1 in
     let not_empty : eqb (length word) 0 ≡ false = ap (λ (t : List ℕ). eqb (length t) 0) h.spelling ∙ tests.0 in
     rw (no_sign, not_empty, read, le-leb (length path) 1024 short) refl

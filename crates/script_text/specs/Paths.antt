@@ -1,7 +1,7 @@
 -- The words of paths. A byte outside 33 to 126, and the percent sign, are written as a percent
 -- sign and two hex digits, in either case; no other byte is written so. One percent sign alone is
 -- the empty path.
-use Rattle.std.specs.Prelude.{◌≡◌, ℕ, ◌+◌, ◌*◌, Bool, not, ◌&&◌, ◌==◌, List, [], ◌∷◌, ◌++◌, length, flat_map, Option, Some, None, nat_lt, nat_le, if◌then◌else◌, codes, option_map, option_and_then}
+use Rattle.std.specs.Prelude.{ℕ, ◌+◌, ◌*◌, Bool, not, ◌&&◌, ◌==◌, List, [], ◌∷◌, length, flat_map, Option, Some, None, nat_lt, nat_le, if◌then◌else◌, codes, option_map, option_and_then}
 use Rattle.std.specs.Char.{digit_value}
 use Rattle.std.specs.Str.{bytes_eq, byte}
 use Rattle.hex.specs.Hex.{encode_lower}

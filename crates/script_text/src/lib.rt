@@ -11,6 +11,8 @@ mod numbers;
 mod paths;
 mod print;
 mod read;
+#[cfg(test)]
+mod tests;
 mod values;
 mod words;
 

@@ -1,4 +1,4 @@
-use Rattle.std.proofs.Common.{◌≡◌, Some, Option, List, ℕ, length, sym, ap, ◌∙◌, eqb-true}
+use Rattle.std.proofs.Common.{◌≡◌, Some, List, ℕ, length, sym, ap, ◌∙◌, eqb-true}
 use Rattle.script_text.specs.Paths.{if_short}
 use Rattle.script_text.proofs.Escapes.{path_ends, path_fits}
 use Rattle.script_text.proofs.paths.read_escaped.Goals as goal
