@@ -11,7 +11,7 @@ mod system;
 
 pub use memory::{MemSink, MemSource};
 pub use outside::{Failed, Sink, Source};
-pub use system::{StdinSource, StdoutSink};
+pub use system::{FileSource, StdinSource, StdoutSink};
 
 #[cfg(test)]
 mod tests;

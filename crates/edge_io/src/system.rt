@@ -1,8 +1,10 @@
-//! The standard streams of the process. They tell nothing of their bytes.
-ghost use Rattle.std.specs.Prelude.{None};
+//! The standard streams of the process, and files. They tell nothing of their bytes.
+ghost use Rattle.std.specs.Prelude.{◌≡◌, None};
 
 use crate::outside::{Failed, Sink, Source};
+use std::fs;
 use std::io::{self, BufRead, Printer, Read, Write};
+use std::rt::Files;
 
 /// The standard input.
 #[derive(Drop)]
@@ -34,6 +36,42 @@ impl<R: BufRead + Drop> Source for StdinSource<R> {
                 Err(Failed)
             }
         }
+    }
+}
+
+/// A file, from its beginning.
+#[derive(Drop)]
+pub struct FileSource<F: Read + Drop> {
+    /// The open file, or `None` where it could not be opened: then each read fails.
+    file: Option<F>,
+    pub(crate) faults: u64,
+}
+
+impl<F: Read + Drop> FileSource<F> {
+    /// The file with this path. One that cannot be opened fails at its first read.
+    pub fn new<R: Files<File = F>>(rt: &R, path: &str) -> Self
+        ensures { result.faults ≡ 0 }
+    {
+        FileSource {
+            file: fs::open(rt, path).ok(),
+            faults: 0,
+        }
+    }
+}
+
+impl<F: Read + Drop> Source for FileSource<F> {
+    ghost faults = { λ s. s.faults };
+
+    ghost left = { λ s. None };
+
+    fn read(&mut self, into: &mut [u8]) -> Result<usize, Failed> {
+        if let Some(file) = &mut self.file
+            && let Ok(count) = file.read(into)
+        {
+            return Ok(count);
+        }
+        self.faults = self.faults.saturating_add(1);
+        Err(Failed)
     }
 }
 

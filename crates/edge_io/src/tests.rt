@@ -1,4 +1,5 @@
-use crate::{MemSink, MemSource, Sink, Source, StdinSource, StdoutSink};
+use crate::{FileSource, MemSink, MemSource, Sink, Source, StdinSource, StdoutSink};
+use std::fs;
 use std::test::Fail;
 
 /// The tests are run without input, so the standard input is at its end, and stays there.
@@ -15,6 +16,30 @@ fn standard_input_is_at_its_end(rt: HostRuntime) {
 fn standard_output_takes_a_byte(rt: HostRuntime) {
     let mut sink = StdoutSink::new(&rt);
     assert_eq!(rt; sink.write(b"\n"), Ok(1));
+}
+
+/// Where the test of a file makes one, in the folder that it runs in.
+const FILE: &str = "edge_io_file_source";
+
+#[test]
+fn a_file_is_read_to_its_end(rt: HostRuntime) -> Result<(), Fail> {
+    fs::write(&rt, FILE, "abc")?;
+    let mut source = FileSource::new(&rt, FILE);
+    fs::remove_file(&rt, FILE)?;
+    let mut two = [0; 2];
+    assert_eq!(rt; source.read(&mut two), Ok(2));
+    assert_eq!(rt; &two, b"ab");
+    assert_eq!(rt; source.read(&mut two), Ok(1));
+    assert_eq!(rt; two[0], b'c');
+    assert_eq!(rt; source.read(&mut two), Ok(0));
+    assert_eq!(rt; source.read(&mut two), Ok(0));
+    assert_eq!(rt; source.faults, 0);
+
+    let mut absent = FileSource::new(&rt, FILE);
+    assert_eq!(rt; absent.faults, 0);
+    assert!(rt; absent.read(&mut two).is_err(), "no such file");
+    assert_eq!(rt; absent.faults, 1);
+    Ok(())
 }
 
 /// A sink with three bytes of room, which is told to fail at its second call.

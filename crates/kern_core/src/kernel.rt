@@ -2,17 +2,20 @@
 ghost use Rattle.std.specs.Prelude.{◌≡◌, ℕ, ◌+◌, ◌≤◌};
 ghost use Rattle.call_words.specs.declared.text.TheConstants.{PIECE_BYTES};
 ghost use Rattle.call_words.specs.declared.limits.TheConstants.{RAW_LINE};
+ghost use Rattle.call_words.specs.Events.{listed};
 ghost use Rattle.machine_model.specs.State.{State, boot};
 ghost use Rattle.machine_model.specs.View.{View, view};
 ghost use Rattle.machine_model.specs.Rows.{Does};
-ghost use Rattle.machine_model.specs.FileCalls.{open_row, close_row, read_row, write_row};
+ghost use Rattle.machine_model.specs.FileCalls.{flags_clash, open_row, close_row, read_row, write_row};
 ghost use Rattle.machine_model.specs.LineCalls.{revoke_row, byte_row, take_row};
-ghost use Rattle.machine_model.specs.Step.{call_row, row, step, view_after, answer_to, gives_a_byte, wakes, listed, MayBeAsked};
+ghost use Rattle.machine_model.specs.Step.{call_row, row, step, view_after, answer_to, gives_a_byte, wakes, MayBeAsked};
 ghost use Rattle.machine_model.specs.Stands.{Stands};
 
 use crate::descriptors::Descriptors;
 use crate::line::Line;
-use call_words::{Access, Call, Decision, Event, PIECE_BYTES, Piece, RAW_LINE, Reply, Rule, Wakes};
+use call_words::{
+    Access, Call, Decision, Event, OpenFlags, PIECE_BYTES, Piece, RAW_LINE, Reply, Rule, Wakes,
+};
 use machine_model::OpenFile;
 use std::marker::Model;
 
@@ -49,6 +52,16 @@ fn bytes(bytes: Piece) -> Decision
     Decision::Answer(Reply::Bytes(bytes))
 }
 
+/// Whether the flags of an open do not go together.
+fn flags_clash(access: Access, flags: OpenFlags) -> bool
+    ensures { result ≡ flags_clash access flags }
+{
+    if (flags.truncate || flags.append) && !access.writes() {
+        return true;
+    }
+    flags.exclusive && !flags.create
+}
+
 impl Kernel {
     /// The kernel as it stands at boot.
     pub fn boot() -> Self
@@ -61,10 +74,16 @@ impl Kernel {
         }
     }
 
-    /// open(2) of line 7.
-    fn do_open(&mut self, access: Access) -> Decision
-        ensures { Does self.old self.new result (open_row self.old access) }
+    /// open(2) of line 7, whose node is there.
+    fn do_open(&mut self, access: Access, flags: OpenFlags) -> Decision
+        ensures { Does self.old self.new result (open_row self.old access flags) }
     {
+        if flags_clash(access, flags) {
+            return denied(Rule::Flags);
+        }
+        if flags.create && flags.exclusive {
+            return denied(Rule::Exists);
+        }
         let file = OpenFile {
             readable: access.reads(),
             writable: access.writes(),
@@ -169,7 +188,7 @@ impl Kernel {
         ensures { Does self.old self.new result (call_row self.old call.now) }
     {
         match call {
-            Call::Open { access, .. } => self.do_open(*access),
+            Call::Open { access, flags, .. } => self.do_open(*access, *flags),
             Call::Close { fd } => self.do_close(*fd),
             Call::Read { fd, max } => self.do_read(*fd, *max),
             Call::Write { fd, bytes } => self.do_write(*fd, bytes),

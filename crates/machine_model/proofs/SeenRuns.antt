@@ -7,7 +7,7 @@ use Rattle.machine_model.specs.View.{View, view}
 use Rattle.machine_model.specs.Step.{step, view_after, answer_to, wakes}
 use Rattle.machine_model.specs.Stands.{Within}
 use Rattle.machine_model.specs.Reading.{Asked}
-use Rattle.machine_model.specs.Answers.{answer_line}
+use Rattle.script_text.specs.Answers.{answer_line}
 use Rattle.machine_model.specs.Script.{answers_from, full_end, text_end, run_end, run_out}
 use Rattle.machine_model.specs.Seen.{answers_seen, out_seen, joined}
 use Rattle.machine_model.proofs.Within.{Within-step, Within-boot}

@@ -4,9 +4,12 @@ use Rattle.std.specs.Prelude.{codes}
 use Rattle.std.specs.Fmt.{digits}
 use Rattle.hex.proofs.OnLiterals.{hex_on_literals}
 use Rattle.machine_model.specs.Step.{view_after, answer_to, wakes}
-use Rattle.machine_model.specs.Words.{words, number_below, bytes_of_word}
-use Rattle.machine_model.specs.Reading.{call_of, events_of_line, lines}
-use Rattle.machine_model.specs.Answers.{hex_word, wake_text, answer_line}
+use Rattle.script_text.specs.Words.{words, number_below, bytes_of_word, hex_word}
+use Rattle.script_text.specs.Paths.{unescaped, path_of}
+use Rattle.script_text.specs.Values.{flags_of}
+use Rattle.script_text.specs.Reading.{call_of, events_of_line}
+use Rattle.script_text.specs.Answers.{wake_text, answer_line}
+use Rattle.machine_model.specs.Reading.{built_events, lines}
 use Rattle.machine_model.specs.Script.{script_out, text_end, bad_boot_line}
 
 empty_text : script_out [] [] ≡ record { bytes = []; status = 0 }
@@ -19,7 +22,7 @@ first_run : script_out []
       bytes = codes "0 ok 0\ntty7 noted\n0 bytes 68\n0 ok 2\ntty7 noted\n0 ok 0\n0 bytes -\n0 err EIO dead\ntty7 out -\n0 ok 0\n";
       status = 0;
     }
-unfolding digits hex_on_literals view_after answer_to wakes words number_below bytes_of_word call_of events_of_line lines hex_word wake_text answer_line text_end bad_boot_line
+unfolding digits hex_on_literals view_after answer_to wakes words number_below bytes_of_word unescaped path_of flags_of call_of events_of_line built_events lines hex_word wake_text answer_line text_end bad_boot_line
 first_run = refl
 
 raw_line_refusals : script_out []
@@ -28,9 +31,18 @@ raw_line_refusals : script_out []
       bytes = codes "0 err EBADF bad-fd\n0 ok 0\n0 err EBADF fd-mode\n0 err EINVAL size\n0 err EAGAIN not-ready\n1 gone\nline 7\n";
       status = 2;
     }
-unfolding digits hex_on_literals view_after answer_to wakes words number_below bytes_of_word call_of events_of_line lines hex_word wake_text answer_line text_end bad_boot_line
+unfolding digits hex_on_literals view_after answer_to wakes words number_below bytes_of_word unescaped path_of flags_of call_of events_of_line built_events lines hex_word wake_text answer_line text_end bad_boot_line
 raw_line_refusals = refl
 
 bad_boot : script_out (codes "recheck on\n") (codes "0 close 0\n") ≡ record { bytes = codes "boot line 1\n"; status = 2 }
 unfolding digits bad_boot_line
 bad_boot = refl
+
+open_flags : script_out []
+    (codes "0 open /dev/tty7 r t\n0 open /dev/tty7 rw x\n0 open /dev/tty7 rw cx\n0 open /dev/tty7 rw n 600\n0 open /dev/tty6 rw\n")
+    ≡ record {
+      bytes = codes "0 err EINVAL flags\n0 err EINVAL flags\n0 err EEXIST exists\n0 ok 0\nline 5\n";
+      status = 2;
+    }
+unfolding digits hex_on_literals view_after answer_to wakes words number_below bytes_of_word unescaped path_of flags_of call_of events_of_line built_events lines hex_word wake_text answer_line text_end bad_boot_line
+open_flags = refl

@@ -1,10 +1,11 @@
 -- The rows of the file calls: open(2), close(2), read(2), write(2).
-use Rattle.std.specs.Prelude.{ℕ, ◌-◌, Bool, false, not, ◌&&◌, ◌==◌, List, [], ◌∷◌, length, take, min, Option, Some, None, nat_lt, nat_le, if◌then◌else◌, slice_index_or, slice_set, position, unwrap_or, is_none}
+use Rattle.std.specs.Prelude.{ℕ, ◌-◌, Bool, false, not, ◌&&◌, ◌||◌, ◌==◌, List, [], ◌∷◌, length, take, min, Option, Some, None, nat_lt, nat_le, if◌then◌else◌, slice_index_or, slice_set, position, unwrap_or, is_none}
 use Rattle.std.specs.List.{list_any}
 use Rattle.call_words.specs.declared.limits.TheConstants.{OUTPUT_BYTES}
 use Rattle.call_words.specs.declared.text.TheConstants.{PIECE_BYTES}
 use Rattle.call_words.specs.declared.calls.Access.{Access}
-use Rattle.call_words.specs.declared.rules.Rule.TheVariants.{Size, BadFd, FdMode, Dead, NotReady, FdRoom}
+use Rattle.call_words.specs.declared.calls.OpenFlags.{OpenFlags}
+use Rattle.call_words.specs.declared.rules.Rule.TheVariants.{Size, BadFd, FdMode, Dead, NotReady, FdRoom, Flags, Exists}
 use Rattle.call_words.specs.Calls.{can_read, can_write}
 use Rattle.machine_model.specs.declared.OpenFile.{OpenFile}
 use Rattle.machine_model.specs.State.{File}
@@ -34,9 +35,19 @@ lowest_free v = position is_none v.descriptors
 abbrev pub opened_for : Access → File
 opened_for access = record { readable = can_read access; writable = can_write access }
 
-abbrev pub open_row : View → Access → Row
-open_row v access = record {
-  lines = line (is_none (lowest_free v)) (refused FdRoom) ∷ [];
+-- the flags do not go together: to truncate or append without write access, to want an absent
+-- file without creating it
+abbrev pub flags_clash : Access → OpenFlags → Bool
+flags_clash access flags = ((flags.truncate || flags.append) && not (can_write access)) || (flags.exclusive && not flags.create)
+
+-- The line's node is there, so a file that is to be created must not be wanted absent. The other
+-- flags and the mode change nothing of an open of line 7.
+abbrev pub open_row : View → Access → OpenFlags → Row
+open_row v access flags = record {
+  lines = line (flags_clash access flags) (refused Flags)
+      ∷ line (flags.create && flags.exclusive) (refused Exists)
+      ∷ line (is_none (lowest_free v)) (refused FdRoom)
+      ∷ [];
   effects = made (unwrap_or (lowest_free v) 0) (opened_for access) ∷ [];
   answer = number (unwrap_or (lowest_free v) 0);
 }

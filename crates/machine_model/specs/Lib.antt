@@ -7,9 +7,7 @@ pub mod LineCalls
 pub mod Step
 pub mod Run
 pub mod Stands
-pub mod Words
 pub mod Reading
-pub mod Answers
 pub mod Script
 pub mod Seen
 pub mod Laws

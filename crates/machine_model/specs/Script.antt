@@ -7,7 +7,7 @@ use Rattle.machine_model.specs.State.{State, boot}
 use Rattle.machine_model.specs.View.{view}
 use Rattle.machine_model.specs.Step.{step, wakes}
 use Rattle.machine_model.specs.Reading.{Asked, reads}
-use Rattle.machine_model.specs.Answers.{answer_line}
+use Rattle.script_text.specs.Answers.{answer_line}
 
 -- the answer lines of events, of which the first is at position p
 abbrev pub answers_from : State → ℕ → List Event → List ℕ

@@ -4,7 +4,7 @@ use Rattle.call_words.specs.declared.events.Event.{Event}
 use Rattle.machine_model.specs.View.{View}
 use Rattle.machine_model.specs.Step.{view_after, answer_to, wakes}
 use Rattle.machine_model.specs.Reading.{Asked}
-use Rattle.machine_model.specs.Answers.{answer_line}
+use Rattle.script_text.specs.Answers.{answer_line}
 use Rattle.machine_model.specs.Script.{Output, run_end}
 
 -- the answer lines of events that come next

@@ -1,15 +1,15 @@
 -- A step of the machine.
-use Rattle.std.specs.Prelude.{◌≡◌, ℕ, ◌<◌, ◌≤◌, Bool, false, not, ◌==◌, List, [], ◌∷◌, length, if◌then◌else◌, codes}
-use Rattle.call_words.specs.declared.limits.TheConstants.{SLOTS, RAW_LINE}
+use Rattle.std.specs.Prelude.{ℕ, Bool, true, false, not, ◌==◌, List, [], ◌∷◌, length, if◌then◌else◌, codes, IsTrue}
+use Rattle.std.specs.Str.{bytes_eq}
+use Rattle.call_words.specs.declared.limits.TheConstants.{RAW_LINE}
 use Rattle.call_words.specs.declared.text.TheConstants.{PIECE_BYTES}
 use Rattle.call_words.specs.declared.calls.Call.{Call}
 use Rattle.call_words.specs.declared.calls.Call.TheVariants.{Open, Close, Read, Write, Revoke}
-use Rattle.call_words.specs.declared.calls.OpenFlags.{OpenFlags}
 use Rattle.call_words.specs.declared.events.Event.{Event}
 use Rattle.call_words.specs.declared.events.Event.TheVariants as event
 use Rattle.call_words.specs.declared.events.Decision.{Decision}
-use Rattle.call_words.specs.declared.events.Wakes.{Wakes}
 use Rattle.call_words.specs.declared.events.Decision.TheVariants.{Answer, Taken, Noted}
+use Rattle.call_words.specs.Events.{MayBeUsed, WakeList}
 use Rattle.machine_model.specs.State.{State}
 use Rattle.machine_model.specs.View.{View, view}
 use Rattle.machine_model.specs.Effects.{tag_all, change_all}
@@ -18,7 +18,7 @@ use Rattle.machine_model.specs.FileCalls.{open_row, close_row, read_row, write_r
 use Rattle.machine_model.specs.LineCalls.{revoke_row, byte_row, take_row}
 
 abbrev pub call_row : View → Call → Row
-call_row v (Open path access flags mode) = open_row v access
+call_row v (Open path access flags mode) = open_row v access flags
 call_row v (Close fd) = close_row v fd
 call_row v (Read fd max) = read_row v fd max
 call_row v (Write fd bytes) = write_row v fd bytes
@@ -44,16 +44,6 @@ view_after v e = change_all v (done (row v e))
 unfoldable pub answer_to : View → Event → Decision
 answer_to v e = decision (row v e)
 
--- who can go on: the slots whose pending call another try would not leave waiting, and the
--- lines of which a taking of 512 bytes would give one
-pub record WakeList : Type 0 where
-  pub slots : List ℕ
-  pub lines : List ℕ
-
--- the same, as a kernel writes it down
-abbrev pub listed : Wakes → WakeList
-listed w = record { slots = w.slots.items; lines = w.lines.items }
-
 abbrev pub gives_a_byte : Decision → Bool
 gives_a_byte (Answer reply) = false
 gives_a_byte (Taken bs) = not (length bs == 0)
@@ -69,23 +59,20 @@ wakes v = record {
 abbrev pub tty7 : List ℕ
 tty7 = codes "/dev/tty7"
 
-abbrev pub no_flags : OpenFlags
-no_flags = record { create = false; exclusive = false; truncate = false; append = false; nonblock = false; on_exec = false }
+-- The calls that are built so far: of the paths that of line 7 alone.
+abbrev pub is_built_call : Call → Bool
+is_built_call (Open path access flags mode) = bytes_eq path tty7
+is_built_call (Close fd) = true
+is_built_call (Read fd max) = true
+is_built_call (Write fd bytes) = true
+is_built_call (Revoke path) = bytes_eq path tty7
 
--- the mode of an open that names none, octal 666
-abbrev pub default_mode : ℕ
-default_mode = 438
-
--- the calls that are built so far: of the paths that of line 7 alone, without flags and mode
-abbrev pub IsBuilt : Call → Type 0
-IsBuilt (Open path access flags mode) = (path ≡ tty7) × (flags ≡ no_flags) × (mode ≡ default_mode)
-IsBuilt (Close fd) = Unit {0}
-IsBuilt (Read fd max) = Unit {0}
-IsBuilt (Write fd bytes) = Unit {0}
-IsBuilt (Revoke path) = path ≡ tty7
+-- The events that are built so far: of the lines line 7 alone.
+abbrev pub is_built : Event → Bool
+is_built (event.Call slot call) = is_built_call call
+is_built (event.Byte tty b) = tty == RAW_LINE
+is_built (event.Take tty max) = tty == RAW_LINE
 
 -- what may be asked of the machine
 abbrev pub MayBeAsked : Event → Type 0
-MayBeAsked (event.Call slot call) = (slot < SLOTS) × IsBuilt call
-MayBeAsked (event.Byte tty b) = tty ≡ RAW_LINE
-MayBeAsked (event.Take tty max) = (tty ≡ RAW_LINE) × (1 ≤ max) × (max ≤ PIECE_BYTES)
+MayBeAsked e = MayBeUsed e × IsTrue (is_built e)

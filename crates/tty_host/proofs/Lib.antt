@@ -1,5 +1,4 @@
-pub mod Cuts
-pub mod Numbers
+pub mod Asked
 pub mod Told
 pub mod OneEvent
 pub mod LinesCome

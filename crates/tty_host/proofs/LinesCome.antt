@@ -9,7 +9,8 @@ use Rattle.machine_model.specs.View.{View}
 use Rattle.machine_model.specs.Seen.{out_seen}
 use Rattle.machine_model.specs.Script.{Output, text_end}
 use Rattle.machine_model.proofs.SeenRuns.{out_seen-end}
-use Rattle.machine_model.specs.Reading.{is_newline, without_empty_last, lines, events_of_line, reads_from}
+use Rattle.machine_model.specs.Reading.{is_newline, without_empty_last, lines, built_events, reads_from}
+use Rattle.script_text.specs.Reading.{events_of_line}
 use Rattle.tty_host.specs.declared.run.Stop.{Stop}
 use Rattle.tty_host.specs.Told.{Goes, ended}
 use Rattle.tty_host.specs.OneLine.{is_one_line}
@@ -88,16 +89,16 @@ lines-long line text one long =
     ] refl
 
 -- a good line gives its events first
-pub good-line : (v : View) (room n : ℕ) (l : List ℕ) (ls : List (List ℕ)) (es : List Event) → Some es ≡ events_of_line l
+pub good-line : (v : View) (room n : ℕ) (l : List ℕ) (ls : List (List ℕ)) (es : List Event) → Some es ≡ built_events l
     → out_seen v room (reads_from n (l ∷ ls)) ≡ out_seen v room (asked (es ++ (reads_from (n + 1) ls).events) (reads_from (n + 1) ls).bad)
 good-line v room n l ls es h = rw (← h) refl
 
 -- a bad line ends all
-pub bad-line : (v : View) (room n : ℕ) (l : List ℕ) (ls : List (List ℕ)) → None ≡ events_of_line l → out_seen v room (reads_from n (l ∷ ls)) ≡ text_end (Some n)
+pub bad-line : (v : View) (room n : ℕ) (l : List ℕ) (ls : List (List ℕ)) → None ≡ built_events l → out_seen v room (reads_from n (l ∷ ls)) ≡ text_end (Some n)
 bad-line v room n l ls h = rw (← h) (out_seen-end v room (Some n))
 
-long-is-bad : (l : List ℕ) → 4096 < length l → None ≡ events_of_line l
-unfolding events_of_line
+long-is-bad : (l : List ℕ) → 4096 < length l → None ≡ built_events l
+unfolding built_events events_of_line
 long-is-bad l h = rw (lt-leb (length l) 4096 h) refl
 
 -- a line that is too long is bad, whatever follows

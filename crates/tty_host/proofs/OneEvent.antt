@@ -1,14 +1,15 @@
 -- One event of a run.
-use Rattle.std.proofs.Common.{◌≡◌, ℕ, zero, suc, ◌+◌, ◌-◌, ◌<◌, List, ◌∷◌, ◌++◌, Option, Ok, Err, Result, length, drop, get_or, drop-cons, add-one, refl, sym, ap, ◌∙◌, arith}
-use Rattle.std.specs.Prelude.{codes}
+use Rattle.std.proofs.Common.{◌≡◌, ℕ, zero, suc, ◌+◌, ◌-◌, ◌<◌, List, ◌∷◌, ◌++◌, Option, Some, Ok, Err, Result, length, drop, get_or, drop-cons, add-one, refl, sym, ap, ◌∙◌, arith}
+use Rattle.std.specs.Prelude.{codes, slice_get}
+use Rattle.std.proofs.lemmas.Option.{slice_get_within, get_or_from_slice_get}
 use Rattle.edge_io.specs.Outside.{Appended}
 use Rattle.call_words.specs.declared.events.Event.{Event}
-use Rattle.call_words.specs.declared.events.Event.TheVariants as event
 use Rattle.call_words.specs.declared.events.Decision.{Decision}
+use Rattle.call_words.specs.Events.{WakeList}
 use Rattle.machine_model.specs.View.{View}
-use Rattle.machine_model.specs.Step.{view_after, answer_to, WakeList, wakes}
-use Rattle.machine_model.specs.Reading.{Asked, byte_events}
-use Rattle.machine_model.specs.Answers.{answer_line}
+use Rattle.machine_model.specs.Step.{view_after, answer_to, wakes}
+use Rattle.machine_model.specs.Reading.{Asked}
+use Rattle.script_text.specs.Answers.{answer_line}
 use Rattle.machine_model.specs.Script.{Output, full_end}
 use Rattle.machine_model.specs.Seen.{out_seen, joined}
 use Rattle.machine_model.proofs.SeenRuns.{out_seen-full, out_seen-event}
@@ -59,19 +60,21 @@ event-next-failed v v' room e es bad a b y line some h began =
     let more = out_seen v' (room - 1) (asked es bad) in
     goes-at (Err Failed) a b _ (joined line more) y (next v v' room e es bad line some h) (goes-failed a b (joined line more) y (began-joined a b line more.bytes began))
 
--- the bytes from i on are the one at i and those after it
-bytes-cons : (bytes : List ℕ) (es : List Event) (i : ℕ) → i < length bytes → byte_events (drop i bytes) ++ es ≡ event.Byte 7 (get_or bytes i 0) ∷ (byte_events (drop (i + 1) bytes) ++ es)
-bytes-cons bytes es i h = rw (drop-cons bytes i 0 h, add-one i) refl
+-- the events from i on are the one at i and those after it
+events-cons : (events es : List Event) (i : ℕ) (e : Event) → slice_get events i ≡ Some e → drop i events ++ es ≡ e ∷ (drop (i + 1) events ++ es)
+events-cons events es i e h =
+    let within : i < length events = slice_get_within events i e h in
+    rw (drop-cons events i e within, get_or_from_slice_get events i e e h, add-one i) refl
 
-pub keeps-byte : (a b c : Option (List ℕ)) (x z : Output) (v : View) (room : ℕ) (bytes : List ℕ) (es : List Event) (bad : Option ℕ) (i : ℕ) → i < length bytes
-    → Keeps a x b (out_seen v room (asked (byte_events (drop i bytes) ++ es) bad))
-    → Keeps b (out_seen v room (asked (event.Byte 7 (get_or bytes i 0) ∷ (byte_events (drop (i + 1) bytes) ++ es)) bad)) c z → Keeps a x c z
-keeps-byte a b c x z v room bytes es bad i h before call = keeps-more a b c x _ z (rw (bytes-cons bytes es i h) at before) call
+pub keeps-next : (a b c : Option (List ℕ)) (x z : Output) (v : View) (room : ℕ) (events es : List Event) (bad : Option ℕ) (i : ℕ) (e : Event) → slice_get events i ≡ Some e
+    → Keeps a x b (out_seen v room (asked (drop i events ++ es) bad))
+    → Keeps b (out_seen v room (asked (e ∷ (drop (i + 1) events ++ es)) bad)) c z → Keeps a x c z
+keeps-next a b c x z v room events es bad i e h before call = keeps-more a b c x _ z (rw (events-cons events es i e h) at before) call
 
-pub goes-byte : (r : Result (Unit {0}) Stop) (a b c : Option (List ℕ)) (x z : Output) (v : View) (room : ℕ) (bytes : List ℕ) (es : List Event) (bad : Option ℕ) (i : ℕ) → i < length bytes
-    → Keeps a x b (out_seen v room (asked (byte_events (drop i bytes) ++ es) bad))
-    → Goes r b (out_seen v room (asked (event.Byte 7 (get_or bytes i 0) ∷ (byte_events (drop (i + 1) bytes) ++ es)) bad)) c z → Goes r a x c z
-goes-byte r a b c x z v room bytes es bad i h before call = goes-more r a b c x _ z (rw (bytes-cons bytes es i h) at before) call
+pub goes-next : (r : Result (Unit {0}) Stop) (a b c : Option (List ℕ)) (x z : Output) (v : View) (room : ℕ) (events es : List Event) (bad : Option ℕ) (i : ℕ) (e : Event) → slice_get events i ≡ Some e
+    → Keeps a x b (out_seen v room (asked (drop i events ++ es) bad))
+    → Goes r b (out_seen v room (asked (e ∷ (drop (i + 1) events ++ es)) bad)) c z → Goes r a x c z
+goes-next r a b c x z v room events es bad i e h before call = goes-more r a b c x _ z (rw (events-cons events es i e h) at before) call
 
 -- the text from i on is the byte at i and what follows it
 pub text-cons : (bytes text : List ℕ) (i : ℕ) → i < length bytes → drop i bytes ++ text ≡ get_or bytes i 0 ∷ (drop (i + 1) bytes ++ text)

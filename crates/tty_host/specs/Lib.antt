@@ -1,5 +1,3 @@
-pub mod WordsLeft
-pub mod Events
 pub mod OneLine
 pub mod Told
 pub mod Ends

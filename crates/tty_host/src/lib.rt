@@ -4,13 +4,12 @@
 //! before the next byte is looked at, so a run needs the same memory for a text of any length.
 #![tactic(auto)]
 
+mod built;
 mod choice;
 mod print;
-mod read;
 mod run;
 mod status;
 mod top;
-mod words;
 
 pub use choice::{Choice, choose};
 pub use status::Status;

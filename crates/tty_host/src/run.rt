@@ -1,25 +1,24 @@
 //! A run of a script: from the bytes of its text to the bytes of its answers.
-ghost use Rattle.std.specs.Prelude.{◌≡◌, ℕ, ◌+◌, ◌-◌, ◌*◌, ◌<◌, ◌≤◌, List, [], ◌∷◌, ◌++◌, length, take, drop, Option, Some, None, Ok, Err, IfOk, OnOk, OnErr, IsTrue};
+ghost use Rattle.std.specs.Prelude.{◌≡◌, ℕ, ◌+◌, ◌-◌, ◌*◌, ◌<◌, ◌≤◌, List, [], ◌∷◌, ◌++◌, length, take, drop, Option, Some, None, Ok, Err, All, IfOk, OnOk, OnErr, IsTrue};
 ghost use Rattle.arrayvec.specs.ArrayVec.{array_vec_len};
 ghost use Rattle.edge_io.specs.Outside.{Rose, Appended};
 ghost use Rattle.call_words.specs.declared.events.Event.{Event};
 ghost use Rattle.machine_model.specs.State.{boot};
 ghost use Rattle.machine_model.specs.View.{view};
 ghost use Rattle.machine_model.specs.Step.{MayBeAsked};
-ghost use Rattle.machine_model.specs.Reading.{byte_events};
 ghost use Rattle.machine_model.specs.Script.{Output, text_end};
 ghost use Rattle.tty_host.specs.Told.{Began};
 ghost use Rattle.tty_host.specs.Ends.{IsScriptStatus, stop_status};
 ghost use Rattle.tty_host.specs.OneLine.{is_one_line};
-ghost use Rattle.tty_host.specs.Events.{events_in, MayAllBeAsked};
 
-use crate::print::{AnswerLine, bad_line, print_answer};
-use crate::read::{Events, read_event_line};
+use crate::built::read_built_line;
+use crate::print::bad_line;
 use crate::status::Status;
 use arrayvec::ArrayVec;
-use call_words::{Event, PIECE_BYTES, RAW_LINE, SCRIPT_LINE_BYTES, TRAIL_EVENTS, Wakes};
+use call_words::{Event, PIECE_BYTES, SCRIPT_LINE_BYTES, TRAIL_EVENTS, Wakes};
 use edge_io::{Failed, Sink, Source};
 use kern_core::Kernel;
+use script_text::{AnswerLine, Events, print_answer};
 
 /// Why a run ends before its text does.
 #[derive(Clone, Copy, Debug, PartialEq, Eq)]
@@ -118,41 +117,21 @@ impl Run {
         }
     }
 
-    /// Runs the arrival of each of the bytes.
-    fn run_bytes<K: Sink>(&mut self, bytes: &[u8], out: &mut K) -> Result<(), Stop>
-        ensures goes { (es : List Event) (bad : Option ℕ) → Goes result
-            (K.written out.old) (come self.old (byte_events bytes.now ++ es) bad)
-            (K.written out.new) (come self.new es bad) }
-        ensures room { OnOk result (self.new.room + length bytes.now ≡ self.old.room) }
-        ensures number { self.new.number ≡ self.old.number }
-        ensures failed { result ≡ Err Stop.Failed → Rose (K.faults out.old) (K.faults out.new) }
-        ensures grows { K.faults out.old ≤ K.faults out.new }
-    {
-        for byte in bytes {
-            let event = Event::Byte {
-                line: RAW_LINE,
-                byte: *byte,
-            };
-            self.run_event(&event, out)?;
-        }
-        Ok(())
-    }
-
     /// Runs the events of a line.
     fn run_events<K: Sink>(&mut self, events: &Events, out: &mut K) -> Result<(), Stop>
-        requires { MayAllBeAsked events.now }
+        requires { All MayBeAsked events.now }
         ensures goes { (es : List Event) (bad : Option ℕ) → Goes result
-            (K.written out.old) (come self.old (events_in events.now ++ es) bad)
+            (K.written out.old) (come self.old (events.now ++ es) bad)
             (K.written out.new) (come self.new es bad) }
         ensures room { OnOk result (self.new.room < self.old.room) }
         ensures number { self.new.number ≡ self.old.number }
         ensures failed { result ≡ Err Stop.Failed → Rose (K.faults out.old) (K.faults out.new) }
         ensures grows { K.faults out.old ≤ K.faults out.new }
     {
-        match events {
-            Events::One(event) => self.run_event(event, out),
-            Events::Bytes(bytes) => self.run_bytes(bytes.as_slice(), out),
+        for i in 0..events.len() {
+            self.run_event(&events.get(i), out)?;
         }
+        Ok(())
     }
 
     /// Ends the run at a bad line.
@@ -178,7 +157,7 @@ impl Run {
         ensures failed { result ≡ Err Stop.Failed → Rose (K.faults out.old) (K.faults out.new) }
         ensures grows { K.faults out.old ≤ K.faults out.new }
     {
-        let Some(events) = read_event_line(self.line.as_slice()) else {
+        let Some(events) = read_built_line(self.line.as_slice()) else {
             return Err(self.stop_at_line(out));
         };
         self.run_events(&events, out)?;
@@ -234,10 +213,10 @@ impl Run {
         self.end_line(out)
     }
 
-    /// Takes all of a source.
-    pub fn run_source<S: Source, K: Sink>(&mut self, src: &mut S, out: &mut K) -> Status
+    /// Takes all of a source, and ends the run.
+    pub fn run_source<S: Source, K: Sink>(mut self, src: &mut S, out: &mut K) -> Status
         ensures writes { (text : List ℕ) → S.left src.old ≡ Some text →
-            Writes result (to_come self.old text) (K.written out.old) (K.written out.new) }
+            Writes result (to_come self text) (K.written out.old) (K.written out.new) }
         ensures all { (text : List ℕ) → S.left src.old ≡ Some text → result ≡ Status.Done → S.left src.new ≡ Some [] }
         ensures read_fault { result ≡ Status.ReadFault → Rose (S.faults src.old) (S.faults src.new) }
         ensures write_fault { result ≡ Status.WriteFault → Rose (K.faults out.old) (K.faults out.new) }

@@ -37,9 +37,23 @@ const FORMS: (&str, &str) = (
     "0 ok 0\ntty7 noted\ntty7 noted\ntty7 noted\n0 bytes 4a4b\n0 bytes -\n0 ok 0\n31 gone\n0 err EBADF bad-fd\n0 err EINVAL size\n",
 );
 
+/// Flags that do not go together, a file that is there and is wanted absent, and an open with all
+/// of its words.
+const OPEN_WORDS: (&str, &str) = (
+    "0 open /dev/tty7 r t\n0 open /dev/tty7 rw x\n0 open /dev/tty7 rw cx\n0 open /dev/tty7 rw n 600\n",
+    "0 err EINVAL flags\n0 err EINVAL flags\n0 err EEXIST exists\n0 ok 0\n",
+);
+
 #[test]
 fn valid_scripts(rt: HostRuntime) -> Result<(), Fail> {
-    let rows = [EMPTY_TEXT, FIRST_RUN, NO_EARLIER_BYTE, LAST_CLOSE, FORMS];
+    let rows = [
+        EMPTY_TEXT,
+        FIRST_RUN,
+        NO_EARLIER_BYTE,
+        LAST_CLOSE,
+        FORMS,
+        OPEN_WORDS,
+    ];
     for (text, answers) in rows {
         let (written, status) = run(rt.alloc(), text.as_bytes())?;
         assert_eq!(rt; written.as_slice(), answers.as_bytes(), "for {text:?}");
@@ -88,7 +102,7 @@ const BAD_LINES: [&str; 34] = [
     "0 write 0 6g",
     "0 open /dev/tty7",
     "0 open /dev/tty7 wr",
-    "0 open /dev/tty7 rw -",
+    "0 open /dev/tty7 rw 600",
     "0 open /dev/tty6 rw",
     "0 revoke /dev/tty0",
     "in tty7 -",

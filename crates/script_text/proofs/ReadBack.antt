@@ -1,0 +1,175 @@
+-- The words that are printed are read as the values that they were printed of.
+use Rattle.std.proofs.Common.{◌≡◌, ℕ, zero, suc, ◌*◌, ◌/◌, ◌%◌, ◌^◌, ◌<◌, ◌≤◌, Bool, true, false, ◌&&◌, cond, eqb, ltb, List, [], ◌∷◌, ◌++◌, length, get_or, flat_map, Option, Some, None, Ok, refl, sym, ap, ◌∙◌, arith, rules}
+use Rattle.std.specs.Prelude.{codes}
+use Rattle.std.specs.Char.{digit_value}
+use Rattle.std.specs.Fmt.{decimal, digits}
+use Rattle.std.specs.List.{list_all, AllByRecursion}
+use Rattle.std.specs.Str.{bytes_eq}
+use Rattle.std.specs.Str.Parse.{digits_value}
+use Rattle.std.proofs.lemmas.Bool.{le-ltb, lt-ltb, ne_eqb, eqb-true, false_from_ne_true, and_right, agree_below_at}
+use Rattle.std.proofs.lemmas.Fmt.{digits_decimal, digits_value-decimal, decimal_nonempty, first_decimal, decimal_digit}
+use Rattle.std.proofs.lemmas.Str.Parse.{IsNumeralModel, numerals_by_value}
+use Rattle.hex.specs.Hex.{IsBytes, lower_digits, encode_with, encode_lower, decode_of}
+use Rattle.hex.proofs.HexLemmas.{decode_of-encode_lower, length-encode_with}
+use Rattle.call_words.specs.declared.calls.Access.{Access}
+use Rattle.call_words.specs.declared.calls.Access.TheVariants as access
+use Rattle.call_words.specs.declared.calls.OpenFlags.{OpenFlags}
+use Rattle.script_text.specs.Words.{is_digit, number_below, bytes_of_word, hex_word}
+use Rattle.script_text.specs.Paths.{is_plain, pair_value, escaped_byte, path_of, path_word}
+use Rattle.script_text.specs.Spelling.{plain, escaped, IsSpelled, by_parts}
+use Rattle.script_text.specs.Values.{line_of, mode_of, access_of, flags_of, line_word, mode_word, access_word, flags_word}
+use Rattle.script_text.specs.Grammar.{Field, Fits, Says, word_of, IsByte, name, slot, line, path, access, flags, mode, fd, max, taken, bytes}
+use Rattle.script_text.proofs.Chosen.{same_text}
+use Rattle.script_text.proofs.Spelled.{written_is_read}
+
+-- digits, by this crate's test
+ten_digits : IsNumeralModel (λ ds. list_all (is_digit 10) ds ≡ true) (digits_value 10)
+ten_digits = numerals_by_value _ (search rules)
+
+-- a number has no leading zero
+no_zero_first : (n : ℕ) → n < 2 ^ 64 → (ltb 1 (length (decimal n)) && eqb (get_or (decimal n) 0 0) 48) ≡ false
+no_zero_first zero h = rw (decimal_digit 0 (omega arith)) refl
+no_zero_first (suc n) h =
+    let first = first_decimal (suc n) (omega arith) h in
+    and_right (ltb 1 (length (decimal (suc n)))) (eqb (get_or (decimal (suc n)) 0 0) 48) (ne_eqb _ 48 (λ e. omega (arith, first, e)))
+
+pub number_back : (limit n : ℕ) → n < limit → limit ≤ 2 ^ 64 → number_below 10 limit (decimal n) ≡ Some n
+unfolding number_below
+number_back limit n h most =
+    let fits : n < 2 ^ 64 = omega arith in
+    let some : eqb (length (decimal n)) 0 ≡ false = ne_eqb _ 0 (λ e. let more = decimal_nonempty n fits in omega (arith, more, e)) in
+    let all : list_all (is_digit 10) (decimal n) ≡ true = digits_decimal ten_digits n fits in
+    let value : digits_value 10 (decimal n) ≡ n = digits_value-decimal ten_digits n fits in
+    let below : ltb n limit ≡ true = lt-ltb n limit h in
+    rw (some, all, no_zero_first n fits, value, below) refl
+
+line_back : (n : ℕ) → n < 8 → line_of (line_word n) ≡ Some n
+line_back n h = number_back 8 n h (omega arith)
+
+-- whether it is this number
+is_some_number : Option ℕ → ℕ → Bool
+is_some_number None n = false
+is_some_number (Some m) n = eqb m n
+
+some_number : (o : Option ℕ) (n : ℕ) → is_some_number o n ≡ true → o ≡ Some n
+unfolding is_some_number
+some_number None n h = absurd cc
+some_number (Some m) n h = ap (λ x. Some x) (eqb-true m n h)
+
+-- each of the 512 modes
+mode_back : (m : ℕ) → m < 8 ^ 3 → mode_of (mode_word m) ≡ Some m
+unfolding number_below digits is_some_number
+mode_back m h = some_number (mode_of (mode_word m)) m (agree_below_at (λ m. is_some_number (mode_of (mode_word m)) m) (λ m. true) 512 m refl h)
+
+access_back : (a : Access) → access_of (access_word a) ≡ Some a
+access_back access.Read = refl
+access_back access.Write = refl
+access_back access.ReadWrite = refl
+
+-- a fact at both booleans
+abbrev AtBoth : (Bool → Type 0) → Type 0
+AtBoth P = P true × P false
+
+at : (P : Bool → Type 0) → AtBoth P → (b : Bool) → P b
+at P h true = h.0
+at P h false = h.1
+
+abbrev Back : Bool → Bool → Bool → Bool → Bool → Bool → Type 0
+Back c x t a n e =
+    let f : OpenFlags = record { create = c; exclusive = x; truncate = t; append = a; nonblock = n; on_exec = e } in
+    flags_of (flags_word f) ≡ Some f
+
+-- each of the 64 sets of flags
+all_back : AtBoth (λ c. AtBoth (λ x. AtBoth (λ t. AtBoth (λ a. AtBoth (λ n. AtBoth (λ e. Back c x t a n e))))))
+unfolding flags_of flags_word
+all_back = search rules
+
+flags_back : (f : OpenFlags) → flags_of (flags_word f) ≡ Some f
+flags_back f =
+    at (λ e. Back f.create f.exclusive f.truncate f.append f.nonblock e)
+    (at (λ n. AtBoth (λ e. Back f.create f.exclusive f.truncate f.append n e))
+    (at (λ a. AtBoth (λ n. AtBoth (λ e. Back f.create f.exclusive f.truncate a n e)))
+    (at (λ t. AtBoth (λ a. AtBoth (λ n. AtBoth (λ e. Back f.create f.exclusive t a n e))))
+    (at (λ x. AtBoth (λ t. AtBoth (λ a. AtBoth (λ n. AtBoth (λ e. Back f.create x t a n e)))))
+    (at (λ c. AtBoth (λ x. AtBoth (λ t. AtBoth (λ a. AtBoth (λ n. AtBoth (λ e. Back c x t a n e)))))) all_back f.create)
+    f.exclusive) f.truncate) f.append) f.nonblock) f.on_exec
+
+-- bytes, as the crate hex says it
+all_bytes : (bs : List ℕ) → AllByRecursion IsByte bs → IsBytes bs
+all_bytes [] h = λ i. omega arith
+all_bytes (b ∷ bs) h = λ i. elim i as (λ i. get_or (b ∷ bs) i 0 < 256) [ zero ↦ h.0 | suc i ↦ all_bytes bs h.1 i ]
+
+-- a text of pairs of digits
+pairs_back : (text bs : List ℕ) → length text ≡ 2 * length bs → 0 < length bs → length bs ≤ 512 → decode_of text ≡ Ok bs → bytes_of_word text ≡ Some bs
+unfolding bytes_of_word
+pairs_back text bs twice some most h =
+    let no_dash : bytes_eq text (codes "-") ≡ false = false_from_ne_true _ (λ e. let one : length text ≡ 1 = ap length (same_text text (codes "-") e) in absurd (omega arith)) in
+    let not_empty : eqb (length text) 0 ≡ false = ne_eqb (length text) 0 (λ e. absurd (omega (arith, e))) in
+    let short : ltb 1024 (length text) ≡ false = le-ltb 1024 (length text) (omega arith) in
+    rw (no_dash, not_empty, short, h) refl
+
+hex_pairs : (b : ℕ) (bs : List ℕ) → hex_word (b ∷ bs) ≡ encode_lower (b ∷ bs)
+unfolding hex_word
+hex_pairs b bs = rw (ne_eqb (length (b ∷ bs)) 0 (omega arith)) refl
+
+bytes_back : (bs : List ℕ) → length bs ≤ 512 → AllByRecursion IsByte bs → bytes_of_word (hex_word bs) ≡ Some bs
+unfolding bytes_of_word hex_word
+bytes_back [] most h = refl
+bytes_back (b ∷ bs) most h =
+    ap bytes_of_word (hex_pairs b bs)
+    ∙ pairs_back (encode_lower (b ∷ bs)) (b ∷ bs) (length-encode_with lower_digits (b ∷ bs)) (omega arith) most (decode_of-encode_lower (b ∷ bs) (all_bytes (b ∷ bs) h))
+
+-- each of the sixteen digits
+digit_back : (k : ℕ) → k < 16 → digit_value (get_or lower_digits k 0) ≡ k
+digit_back k h = eqb-true _ k (agree_below_at (λ k. eqb (digit_value (get_or lower_digits k 0)) k) (λ k. true) 16 k refl h)
+
+-- what is printed of bytes is a spelling of them
+printed_spells : (bs : List ℕ) → AllByRecursion IsByte bs → IsSpelled (flat_map escaped_byte bs) bs
+unfolding encode_with
+printed_spells [] h = record { parts = []; valid = tt; spelling = refl; meaning = refl }
+printed_spells (b ∷ bs) h =
+    let rest = printed_spells bs h.1 in
+    let high = get_or lower_digits (b / 16) 0 in
+    let low = get_or lower_digits (b % 16) 0 in
+    let small : b < 256 = h.0 in
+    let first : digit_value high ≡ b / 16 = digit_back (b / 16) (omega arith) in
+    let second : digit_value low ≡ b % 16 = digit_back (b % 16) (omega arith) in
+    let value : pair_value high low ≡ b = omega (arith, first, second) in
+    elim (is_plain b) as (λ t. is_plain b ≡ t → IsSpelled (cond t (b ∷ []) (37 ∷ encode_lower (b ∷ [])) ++ flat_map escaped_byte bs) (b ∷ bs)) [
+      | true ↦ λ e. record {
+        parts = plain b ∷ rest.parts;
+        valid = (e, rest.valid);
+        spelling = ap (λ t. b ∷ t) rest.spelling;
+        meaning = ap (λ t. b ∷ t) rest.meaning;
+      }
+      | false ↦ λ e. record {
+        parts = escaped high low ∷ rest.parts;
+        valid = ((omega (arith, first), omega (arith, second), ap is_plain value ∙ e), rest.valid);
+        spelling = ap (λ (t : List ℕ). 37 ∷ high ∷ low ∷ t) rest.spelling;
+        meaning = ap (λ c. c ∷ bs) (sym value) ∙ ap (λ (t : List ℕ). pair_value high low ∷ t) rest.meaning;
+      }
+    ] refl
+
+some_printed : (b : ℕ) (bs : List ℕ) → path_word (b ∷ bs) ≡ flat_map escaped_byte (b ∷ bs)
+unfolding path_word
+some_printed b bs = rw (ne_eqb (length (b ∷ bs)) 0 (omega arith)) refl
+
+path_back : (p : List ℕ) → length p ≤ 1024 → AllByRecursion IsByte p → path_of (path_word p) ≡ Some p
+unfolding path_of path_word
+path_back [] most h = refl
+path_back (b ∷ bs) most h =
+    ap path_of (some_printed b bs)
+    ∙ written_is_read (flat_map escaped_byte (b ∷ bs)) (b ∷ bs) (by_parts (omega arith) most (printed_spells (b ∷ bs) h))
+
+pub word_back : (f : Field) → Fits f → Says f (word_of f)
+word_back (name n) h = refl
+word_back (slot n) h = number_back 32 n h (omega arith)
+word_back (line n) h = line_back n h
+word_back (path p) h = path_back p h.0 h.1
+word_back (access a) h = access_back a
+word_back (flags f) h = flags_back f
+word_back (mode m) h = mode_back m h
+word_back (fd n) h = number_back (2 ^ 8) n h (omega arith)
+word_back (max n) h = number_back (2 ^ 16) n h (omega arith)
+word_back (taken n) h = number_back 513 n (omega arith) (omega arith)
+word_back (bytes bs) h = bytes_back bs h.0 h.1

@@ -1,0 +1,9 @@
+pub mod Words
+pub mod Paths
+pub mod Spelling
+pub mod Values
+pub mod Reading
+pub mod Grammar
+pub mod Left
+pub mod Listed
+pub mod Answers

@@ -1,0 +1,58 @@
+-- The words of paths. A byte outside 33 to 126, and the percent sign, are written as a percent
+-- sign and two hex digits, in either case; no other byte is written so. One percent sign alone is
+-- the empty path.
+use Rattle.std.specs.Prelude.{ℕ, ◌+◌, ◌*◌, Bool, not, ◌&&◌, ◌==◌, List, [], ◌∷◌, length, flat_map, Option, Some, None, nat_lt, nat_le, if◌then◌else◌, codes, option_map, option_and_then}
+use Rattle.std.specs.Char.{digit_value}
+use Rattle.std.specs.Str.{bytes_eq, byte}
+use Rattle.hex.specs.Hex.{encode_lower}
+use Rattle.call_words.specs.declared.text.TheConstants.{PATH_BYTES}
+use Rattle.script_text.specs.Words.{only_if}
+
+-- a byte that is written as itself
+abbrev pub is_plain : ℕ → Bool
+is_plain b = nat_le 33 b && nat_le b 126 && not (b == byte "%")
+
+-- the byte of two hex digits
+abbrev pub pair_value : ℕ → ℕ → ℕ
+pair_value high low = 16 * digit_value high + digit_value low
+
+-- the byte that two hex digits write behind a percent sign
+abbrev pub escape_value : ℕ → ℕ → Option ℕ
+escape_value high low =
+    only_if (nat_lt (digit_value high) 16 && nat_lt (digit_value low) 16 && not (is_plain (pair_value high low)))
+    (Some (pair_value high low))
+
+-- a first byte, and the others
+abbrev pub then_bytes : Option ℕ → Option (List ℕ) → Option (List ℕ)
+then_bytes first others = option_and_then (λ b. option_map (λ bs. b ∷ bs) others) first
+
+-- the byte that is written as itself
+abbrev pub plain_value : ℕ → Option ℕ
+plain_value b = only_if (is_plain b) (Some b)
+
+-- the bytes that a text of plain bytes and escapes writes
+unfoldable pub unescaped : List ℕ → Option (List ℕ)
+unescaped [] = Some []
+unescaped (b ∷ high ∷ low ∷ rest) =
+    if b == byte "%" then then_bytes (escape_value high low) (unescaped rest)
+    else then_bytes (plain_value b) (unescaped (high ∷ low ∷ rest))
+unescaped (b ∷ rest) = then_bytes (plain_value b) (unescaped rest)
+
+-- bytes that a path can have
+abbrev pub if_short : Option (List ℕ) → Option (List ℕ)
+if_short bytes = option_and_then (λ bs. only_if (nat_le (length bs) PATH_BYTES) (Some bs)) bytes
+
+-- the path of a word
+unfoldable pub path_of : List ℕ → Option (List ℕ)
+path_of w =
+    if bytes_eq w (codes "%") then Some []
+    else if length w == 0 then None
+    else if_short (unescaped w)
+
+-- how a byte is printed
+abbrev pub escaped_byte : ℕ → List ℕ
+escaped_byte b = if is_plain b then b ∷ [] else byte "%" ∷ encode_lower (b ∷ [])
+
+-- the word that is printed of a path
+unfoldable pub path_word : List ℕ → List ℕ
+path_word path = if length path == 0 then codes "%" else flat_map escaped_byte path

@@ -1,0 +1,72 @@
+//! The words of paths.
+ghost use Rattle.std.specs.Prelude.{◌≡◌, ℕ, ◌<◌, List, [], ◌∷◌, length, MatchOption, IfSome, None};
+ghost use Rattle.script_text.specs.Paths.{is_plain, escape_value, then_bytes, unescaped, if_short, path_of};
+
+use arrayvec::ArrayVec;
+use call_words::{PATH_BYTES, PathText};
+
+const PERCENT: u8 = b'%';
+
+/// Whether a byte is written as itself.
+fn is_plain(byte: u8) -> bool
+    ensures { result ≡ is_plain byte }
+{
+    (33..=126).contains(&byte) && byte != PERCENT
+}
+
+/// The byte that two hex digits write behind a percent sign.
+fn read_escape(high: u8, low: u8) -> Option<u8>
+    ensures { result ≡ escape_value high low }
+{
+    let high = char::from(high).to_digit(16)?;
+    let low = char::from(low).to_digit(16)?;
+    let byte = (16 * high + low) as u8;
+    if is_plain(byte) { None } else { Some(byte) }
+}
+
+/// The byte that comes first, and the text after it.
+#[tactic(auto, unfolding(crate::specs::Paths::unescaped))]
+fn next_byte(text: &[u8]) -> Option<(u8, &[u8])>
+    requires { 0 < length text.now }
+    ensures byte { MatchOption result (unescaped text.now ≡ None)
+        (λ next. unescaped text.now ≡ then_bytes (Some next.0) (unescaped next.1.now)) }
+    ensures shorter { IfSome result (λ next. length next.1.now < length text.now) }
+{
+    match text {
+        [PERCENT, high, low, rest @ ..] => Some((read_escape(*high, *low)?, rest)),
+        [byte, rest @ ..] if is_plain(*byte) => Some((*byte, rest)),
+        _ => None,
+    }
+}
+
+/// The path that a text of plain bytes and escapes writes, where it has at most 1,024 bytes.
+fn read_escaped(text: &[u8]) -> Option<PathText>
+    ensures { result ≡ if_short (unescaped text.now) }
+{
+    let mut path: ArrayVec<u8, PATH_BYTES> = ArrayVec::new();
+    let mut rest = text;
+    while !rest.is_empty() {
+        let (byte, after) = next_byte(rest)?;
+        if path.is_full() {
+            return None;
+        }
+        path.push(byte);
+        rest = after;
+    }
+    PathText::from_slice(path.as_slice())
+}
+
+/// The path that a word writes: a percent sign for the empty one, or its bytes, of which those
+/// that are not plain are escaped.
+#[tactic(auto, unfolding(crate::specs::Paths::path_of))]
+pub fn read_path(word: &[u8]) -> Option<PathText>
+    ensures { result ≡ path_of word.now }
+{
+    if word == b"%".as_slice() {
+        return Some(PathText::empty());
+    }
+    if word.is_empty() {
+        return None;
+    }
+    read_escaped(word)
+}

@@ -1,0 +1,147 @@
+//! Answers as lines.
+ghost use Rattle.std.specs.Prelude.{◌≡◌, ℕ, ◌+◌, ◌-◌, ◌*◌, ◌<◌, ◌≤◌, List, [], ◌∷◌, ◌++◌, length, take, flat_map, codes};
+ghost use Rattle.std.specs.Fmt.{decimal};
+ghost use Rattle.hex.specs.Hex.{encode_lower};
+ghost use Rattle.arrayvec.specs.ArrayVec.{array_vec_len};
+ghost use Rattle.call_words.specs.declared.text.TheConstants.{PIECE_BYTES};
+ghost use Rattle.call_words.specs.Events.{listed};
+ghost use Rattle.script_text.specs.Words.{hex_word};
+ghost use Rattle.script_text.specs.Answers.{reply_text, decision_text, asker_text, wake_text, answer_line};
+
+use arrayvec::ArrayVec;
+use call_words::{Decision, Event, PIECE_BYTES, Reply, Wakes};
+
+/// How many bytes an answer line has at most.
+pub const ANSWER_BYTES: usize = 16_384;
+
+/// An answer line, in place.
+pub type AnswerLine = ArrayVec<u8, ANSWER_BYTES>;
+
+/// Adds bytes at the end.
+pub fn push_bytes<const N: usize>(out: &mut ArrayVec<u8, N>, bytes: &[u8])
+    requires { array_vec_len out.old + length bytes.now ≤ N }
+    ensures bytes { out.new.items ≡ out.old.items ++ bytes.now }
+    ensures len { array_vec_len out.new ≡ array_vec_len out.old + length bytes.now }
+{
+    let _ = out.try_extend_from_slice(bytes);
+}
+
+/// Adds a number in decimal: at most ten digits.
+pub fn push_number<const N: usize>(out: &mut ArrayVec<u8, N>, number: u32)
+    requires { array_vec_len out.old + 10 ≤ N }
+    ensures bytes { out.new.items ≡ out.old.items ++ decimal number }
+    ensures len { array_vec_len out.new ≤ array_vec_len out.old + 10 }
+{
+    push_bytes(out, itoa::Buffer::new().format(number).as_bytes());
+}
+
+/// The hex digits of bytes, in lower case. `room` has two places for each byte.
+fn push_pairs(out: &mut AnswerLine, bytes: &[u8], room: &mut [u8])
+    requires places { length room.old ≡ 2 * length bytes.now }
+    requires fits { array_vec_len out.old + length room.old ≤ ANSWER_BYTES }
+    ensures bytes { out.new.items ≡ out.old.items ++ encode_lower bytes.now }
+    ensures len { array_vec_len out.new ≡ array_vec_len out.old + length room.old }
+{
+    let _ = hex::encode_to_slice(bytes, room);
+    push_bytes(out, room);
+}
+
+/// The hex digits of at most 512 bytes, or a dash for none.
+#[tactic(auto, unfolding(crate::specs::Words::hex_word))]
+fn push_hex(out: &mut AnswerLine, bytes: &[u8])
+    requires most { length bytes.now ≤ PIECE_BYTES }
+    requires fits { array_vec_len out.old + 1024 ≤ ANSWER_BYTES }
+    ensures bytes { out.new.items ≡ out.old.items ++ hex_word bytes.now }
+    ensures len { array_vec_len out.new ≤ array_vec_len out.old + 1024 }
+{
+    if bytes.is_empty() {
+        push_bytes(out, b"-");
+        return;
+    }
+    let mut room = [0; 2 * PIECE_BYTES];
+    push_pairs(out, bytes, &mut room[..2 * bytes.len()]);
+}
+
+fn push_reply(out: &mut AnswerLine, reply: &Reply)
+    requires { array_vec_len out.old + 1100 ≤ ANSWER_BYTES }
+    ensures bytes { out.new.items ≡ out.old.items ++ reply_text reply.now }
+    ensures len { array_vec_len out.new ≤ array_vec_len out.old + 1100 }
+{
+    match reply {
+        Reply::Num(number) => {
+            push_bytes(out, b"ok ");
+            push_number(out, *number);
+        }
+        Reply::Bytes(bytes) => {
+            push_bytes(out, b"bytes ");
+            push_hex(out, bytes.as_slice());
+        }
+        Reply::Denied(rule) => {
+            push_bytes(out, b"err ");
+            push_bytes(out, rule.errno().name());
+            push_bytes(out, b" ");
+            push_bytes(out, rule.word());
+        }
+        Reply::Gone => push_bytes(out, b"gone"),
+    }
+}
+
+fn push_decision(out: &mut AnswerLine, decision: &Decision)
+    requires { array_vec_len out.old + 1100 ≤ ANSWER_BYTES }
+    ensures bytes { out.new.items ≡ out.old.items ++ decision_text decision.now }
+    ensures len { array_vec_len out.new ≤ array_vec_len out.old + 1100 }
+{
+    match decision {
+        Decision::Answer(reply) => push_reply(out, reply),
+        Decision::Taken(bytes) => {
+            push_bytes(out, b"out ");
+            push_hex(out, bytes.as_slice());
+        }
+        Decision::Noted => push_bytes(out, b"noted"),
+    }
+}
+
+fn push_asker(out: &mut AnswerLine, event: &Event)
+    requires { array_vec_len out.old + 13 ≤ ANSWER_BYTES }
+    ensures bytes { out.new.items ≡ out.old.items ++ asker_text event.now }
+    ensures len { array_vec_len out.new ≤ array_vec_len out.old + 13 }
+{
+    match event {
+        Event::Call { slot, .. } => push_number(out, u32::from(*slot)),
+        Event::Byte { line, .. } | Event::Take { line, .. } => {
+            push_bytes(out, b"tty");
+            push_number(out, u32::from(*line));
+        }
+    }
+}
+
+/// The slots that can go on, where there are any: at most 32.
+#[tactic(auto, unfolding(crate::specs::Answers::wake_text))]
+fn push_wakes(out: &mut AnswerLine, slots: &[u8])
+    requires most { length slots.now ≤ 32 }
+    requires fits { array_vec_len out.old + 400 ≤ ANSWER_BYTES }
+    ensures bytes { out.new.items ≡ out.old.items ++ wake_text slots.now }
+    ensures len { array_vec_len out.new ≤ array_vec_len out.old + 400 }
+{
+    if slots.is_empty() {
+        return;
+    }
+    push_bytes(out, b" wake");
+    for slot in slots {
+        push_bytes(out, b" ");
+        push_number(out, u32::from(*slot));
+    }
+}
+
+/// Writes the answer line of an event: who is answered, the decision, and who can go on.
+#[tactic(auto, unfolding(crate::specs::Answers::answer_line))]
+pub fn print_answer(event: &Event, decision: &Decision, wakes: &Wakes, out: &mut AnswerLine)
+    requires { out.old.items ≡ [] }
+    ensures { out.new.items ≡ answer_line event.now decision.now (listed wakes.now) }
+{
+    push_asker(out, event);
+    push_bytes(out, b" ");
+    push_decision(out, decision);
+    push_wakes(out, wakes.slots.as_slice());
+    push_bytes(out, b"\n");
+}

@@ -1,0 +1,297 @@
+//! Event lines and answer lines, worked out by hand from docs/TEXTS.md.
+use crate::{
+    AnswerLine, Events, one_grammar, paths_are_read_as_spelled, print_answer, read_event_line,
+    words_are_read_back,
+};
+use call_words::{Call, Decision, Event, OpenFlags, Piece, Reply, Rule, Wakes};
+use std::alloc::Global;
+use std::process::Abort;
+use std::test::Fail;
+
+/// Lines, and the events that they ask, as `shown` writes them, or `bad`.
+const LINES: &str = "\
+0 open /dev/tty7 rw -> 0 open /dev/tty7 ReadWrite - 666\n\
+31 open /tmp r -> 31 open /tmp Read - 666\n\
+32 open /tmp r -> bad\n\
+0 open a w - -> 0 open a Write - 666\n\
+0 open a rw cxtane 640 -> 0 open a ReadWrite -cxtane 640\n\
+0 open a rw enatxc -> 0 open a ReadWrite -cxtane 666\n\
+0 open a r t -> 0 open a Read -t 666\n\
+0 open a r a -> 0 open a Read -a 666\n\
+0 open a rw x -> 0 open a ReadWrite -x 666\n\
+0 open a rw cc -> bad\n\
+0 open a rw cxc -> bad\n\
+0 open a rw -c -> bad\n\
+0 open a rw -- -> bad\n\
+0 open a rw C -> bad\n\
+0 open a rw b -> bad\n\
+0 open a rw 600 -> bad\n\
+0 open a rw - 600 -> 0 open a ReadWrite - 600\n\
+0 open a rw n 0 -> 0 open a ReadWrite -n 0\n\
+0 open a rw - 777 -> 0 open a ReadWrite - 777\n\
+0 open a rw - 778 -> bad\n\
+0 open a rw - 1000 -> bad\n\
+0 open a rw - 0777 -> bad\n\
+0 open a rw - 00 -> bad\n\
+0 open a rw - - -> bad\n\
+0 open a rw - 600 x -> bad\n\
+0 open a rw  -> bad\n\
+0 open a -> bad\n\
+0 open a wr -> bad\n\
+0 open a R -> bad\n\
+0 open % rw -> 0 open  ReadWrite - 666\n\
+0 open %% rw -> bad\n\
+0 open  rw -> bad\n\
+0 open %25 r -> 0 open % Read - 666\n\
+0 open /a%20b r -> 0 open /a<20>b Read - 666\n\
+0 open %0A%0a%7f r -> 0 open <0a><0a><7f> Read - 666\n\
+0 open %fF%00 r -> 0 open <ff><00> Read - 666\n\
+0 open !~ r -> 0 open !~ Read - 666\n\
+0 open %2F rw -> bad\n\
+0 open %2f rw -> bad\n\
+0 open %41 rw -> bad\n\
+0 open %21 rw -> bad\n\
+0 open %7e rw -> bad\n\
+0 open a% r -> bad\n\
+0 open %0 r -> bad\n\
+0 open %0g r -> bad\n\
+0 open a\x7f r -> bad\n\
+0 open \u{e9} r -> bad\n\
+0 close 0 -> 0 close 0\n\
+0 close 255 -> 0 close 255\n\
+0 close 256 -> bad\n\
+0 close 18446744073709551616 -> bad\n\
+0 close 00 -> bad\n\
+0 close 07 -> bad\n\
+0 close +7 -> bad\n\
+0 close - -> bad\n\
+0 close -> bad\n\
+0 close 0 0 -> bad\n\
+5 read 3 65535 -> 5 read 3 65535\n\
+5 read 3 65536 -> bad\n\
+5 read 255 0 -> 5 read 255 0\n\
+5 read 256 0 -> bad\n\
+5 read 3 -> bad\n\
+5 read 3 05 -> bad\n\
+5 read 3 5 5 -> bad\n\
+5 write 0 6aF0 -> 5 write 0 j<f0>\n\
+5 write 255 - -> 5 write 255 \n\
+5 write 0 6 -> bad\n\
+5 write 0 6g -> bad\n\
+5 write 0  -> bad\n\
+5 write 0 -> bad\n\
+5 write 0 61 62 -> bad\n\
+9 revoke /dev/tty0 -> 9 revoke /dev/tty0\n\
+9 revoke -> bad\n\
+9 revoke a b -> bad\n\
+in tty7 4a4B -> 7 byte J, 7 byte K\n\
+in tty0 00 -> 0 byte <00>\n\
+in tty8 61 -> bad\n\
+in tty07 61 -> bad\n\
+in tty 61 -> bad\n\
+in 7 61 -> bad\n\
+in TTY7 61 -> bad\n\
+in tty7 - -> bad\n\
+in tty7 -> bad\n\
+take tty7 1 -> 7 take 1\n\
+take tty3 512 -> 3 take 512\n\
+take tty7 0 -> bad\n\
+take tty7 513 -> bad\n\
+take tty7 -> bad\n\
+\x20-> bad\n\
+\x20 -> bad\n\
+\x200 close 0 -> bad\n\
+0 close 0  -> bad\n\
+0  close 0 -> bad\n\
+0\tclose 0 -> bad\n\
+0 close 0\r -> bad\n\
+# 0 close 0 -> bad\n\
+0 -> bad\n\
+00 close 0 -> bad\n\
+0 Close 0 -> bad\n\
+0 jump 0 -> bad\n\
+";
+
+/// Bytes of ASCII that are neither blanks nor control characters as they are, and others in hex.
+fn shown_bytes(alloc: Global, bytes: &[u8]) -> Result<String, Fail> {
+    let mut text = String::new(alloc);
+    for byte in bytes {
+        if byte.is_ascii_graphic() {
+            text.push(char::from(*byte))?;
+        } else {
+            text.push_str(format!(in alloc; "<{byte:02x}>")?.as_str())?;
+        }
+    }
+    Ok(text)
+}
+
+/// A dash, and the letters of the flags.
+fn shown_flags(alloc: Global, flags: OpenFlags) -> Result<String, Fail> {
+    let mut text = "-".to_string(alloc)?;
+    for (is_on, letter) in [
+        (flags.create, 'c'),
+        (flags.exclusive, 'x'),
+        (flags.truncate, 't'),
+        (flags.append, 'a'),
+        (flags.nonblock, 'n'),
+        (flags.on_exec, 'e'),
+    ] {
+        if is_on {
+            text.push(letter)?;
+        }
+    }
+    Ok(text)
+}
+
+fn shown_call(alloc: Global, call: &Call) -> Result<String, Fail> {
+    let text = match call {
+        Call::Open {
+            path,
+            access,
+            flags,
+            mode,
+        } => {
+            let path = shown_bytes(alloc, path.as_slice())?;
+            let flags = shown_flags(alloc, *flags)?;
+            format!(in alloc; "open {path} {access:?} {flags} {mode:o}")?
+        }
+        Call::Close { fd } => format!(in alloc; "close {fd}")?,
+        Call::Read { fd, max } => format!(in alloc; "read {fd} {max}")?,
+        Call::Write { fd, bytes } => {
+            let bytes = shown_bytes(alloc, bytes.as_slice())?;
+            format!(in alloc; "write {fd} {bytes}")?
+        }
+        Call::Revoke { path } => {
+            let path = shown_bytes(alloc, path.as_slice())?;
+            format!(in alloc; "revoke {path}")?
+        }
+    };
+    Ok(text)
+}
+
+fn shown_event(alloc: Global, event: &Event) -> Result<String, Fail> {
+    let text = match event {
+        Event::Call { slot, call } => {
+            let call = shown_call(alloc, call)?;
+            format!(in alloc; "{slot} {call}")?
+        }
+        Event::Byte { line, byte } => {
+            let byte = shown_bytes(alloc, &[*byte])?;
+            format!(in alloc; "{line} byte {byte}")?
+        }
+        Event::Take { line, max } => format!(in alloc; "{line} take {max}")?,
+    };
+    Ok(text)
+}
+
+/// The events of a line, with commas, or `bad`.
+fn shown(alloc: Global, events: &Option<Events>) -> Result<String, Fail> {
+    let Some(events) = events else {
+        return Ok("bad".to_string(alloc)?);
+    };
+    let mut text = String::new(alloc);
+    for i in 0..events.len() {
+        if i > 0 {
+            text.push_str(", ")?;
+        }
+        text.push_str(shown_event(alloc, &events.get(i))?.as_str())?;
+    }
+    Ok(text)
+}
+
+#[test]
+fn lines_are_read(rt: HostRuntime) -> Result<(), Fail> {
+    assert_eq!(rt; LINES.split_terminator('\n').count(), 100);
+    for row in LINES.split_terminator('\n') {
+        let (line, want) = row.split_once(" -> ").ok_or("no row")?;
+        let events = read_event_line(line.as_bytes());
+        assert_eq!(rt; shown(rt.alloc(), &events)?.as_str(), want, "{line:?}");
+    }
+    Ok(())
+}
+
+/// A line with so many times a text between two others.
+fn repeated(
+    alloc: Global,
+    front: &str,
+    text: &str,
+    count: usize,
+    end: &str,
+) -> Result<Vec<u8>, Fail> {
+    let mut line = Vec::from_slice(alloc, front.as_bytes())?;
+    for _ in 0..count {
+        line.extend_from_slice(text.as_bytes())?;
+    }
+    line.extend_from_slice(end.as_bytes())?;
+    Ok(line)
+}
+
+/// The longest words, and those with a byte more; how many events there are, or none.
+#[test]
+fn longest_words(rt: HostRuntime) -> Result<(), Fail> {
+    for (front, text, count, end, events) in [
+        ("0 open ", "a", 1024, " r", Some(1)),
+        ("0 open ", "a", 1025, " r", None),
+        ("0 open ", "%0a", 1024, " r", Some(1)),
+        ("0 open ", "%0a", 1025, " r", None),
+        ("0 write 0 ", "6a", 512, "", Some(1)),
+        ("0 write 0 ", "6a", 513, "", None),
+        ("in tty7 ", "6a", 512, "", Some(512)),
+        ("in tty7 ", "6a", 513, "", None),
+        ("0 close ", "1", 4088, "", None),
+        ("0 close ", "1", 4089, "", None),
+    ] {
+        let line = repeated(rt.alloc(), front, text, count, end)?;
+        let read = read_event_line(line.as_slice());
+        assert_eq!(rt;
+            read.map(|events| events.len()),
+            events,
+            "{count} times {text:?}"
+        );
+    }
+    Ok(())
+}
+
+fn answer(rt: &impl Abort, event: &Event, decision: &Decision, slots: &[u8], line: &str) {
+    let mut wakes = Wakes::none();
+    for slot in slots {
+        let _ = wakes.slots.try_push(*slot);
+    }
+    let mut out = AnswerLine::new();
+    print_answer(event, decision, &wakes, &mut out);
+    assert_eq!(rt; out.as_slice(), line.as_bytes());
+}
+
+/// One answer line of each form.
+#[test]
+fn answers_are_printed(rt: HostRuntime) {
+    let call = Event::Call {
+        slot: 31,
+        call: Call::Close { fd: 0 },
+    };
+    let byte = Event::Byte { line: 7, byte: 0 };
+    let bytes = || Piece::from_slice(b"j\xf0").expect(&rt, "a piece");
+    let num = Decision::Answer(Reply::Num(4_294_967_295));
+    answer(&rt, &call, &num, &[], "31 ok 4294967295\n");
+    answer(&rt, &call, &num, &[0, 31], "31 ok 4294967295 wake 0 31\n");
+    let read = Decision::Answer(Reply::Bytes(bytes()));
+    answer(&rt, &call, &read, &[], "31 bytes 6af0\n");
+    let denied = Decision::Answer(Reply::Denied(Rule::NotReady));
+    answer(&rt, &call, &denied, &[], "31 err EAGAIN not-ready\n");
+    answer(&rt, &call, &Decision::Answer(Reply::Gone), &[], "31 gone\n");
+    answer(&rt, &byte, &Decision::Noted, &[], "tty7 noted\n");
+    answer(
+        &rt,
+        &byte,
+        &Decision::Taken(Piece::empty()),
+        &[1],
+        "tty7 out - wake 1\n",
+    );
+}
+
+#[test]
+fn laws_are_called() {
+    one_grammar();
+    paths_are_read_as_spelled();
+    words_are_read_back();
+}

@@ -1,0 +1,131 @@
+//! The value of a word, for each kind of word.
+ghost use Rattle.std.specs.Prelude.{◌≡◌, ◌==◌, ℕ, ◌+◌, ◌*◌, ◌<◌, ◌≤◌, ◌^◌, List, length, count_by, nat_le, IfSome};
+ghost use Rattle.std.specs.List.{list_all};
+ghost use Rattle.call_words.specs.declared.limits.TheConstants.{SLOTS, LINES};
+ghost use Rattle.call_words.specs.declared.text.TheConstants.{PIECE_BYTES};
+ghost use Rattle.script_text.specs.Words.{number_below};
+ghost use Rattle.script_text.specs.Values.{slot_of, line_of, fd_of, max_of, taken_of, mode_of, access_of, flag_letters, is_flag_letter, times, are_flags, flags_in, flags_of};
+
+use crate::numbers::{DECIMAL, OCTAL, read_number};
+use call_words::{Access, LINES, OpenFlags, PIECE_BYTES, SLOTS};
+
+/// The mode of an open that names none.
+pub const DEFAULT_MODE: u16 = 0o666;
+
+/// The number of a slot.
+pub fn read_slot(word: &[u8]) -> Option<u8>
+    ensures value { result ≡ slot_of word.now }
+    ensures below { IfSome result (λ slot. slot < SLOTS) }
+{
+    let slot = read_number(word, DECIMAL, u32::from(SLOTS))?;
+    Some(slot as u8)
+}
+
+/// The line of `ttyN`.
+pub fn read_line(word: &[u8]) -> Option<u8>
+    ensures value { result ≡ line_of word.now }
+    ensures below { IfSome result (λ line. line < LINES) }
+{
+    let number = word.strip_prefix(b"tty".as_slice())?;
+    let line = read_number(number, DECIMAL, u32::from(LINES))?;
+    Some(line as u8)
+}
+
+/// The number of a descriptor.
+pub fn read_fd(word: &[u8]) -> Option<u8>
+    ensures { result ≡ fd_of word.now }
+{
+    let fd = read_number(word, DECIMAL, 1 << 8)?;
+    Some(fd as u8)
+}
+
+/// The most bytes that a read asks.
+pub fn read_max(word: &[u8]) -> Option<u16>
+    ensures { result ≡ max_of word.now }
+{
+    let max = read_number(word, DECIMAL, 1 << 16)?;
+    Some(max as u16)
+}
+
+/// The most bytes that a taking asks.
+pub fn read_taken(word: &[u8]) -> Option<u16>
+    ensures value { result ≡ taken_of word.now }
+    ensures most { IfSome result (λ max. max ≤ PIECE_BYTES) }
+{
+    let max = read_number(word, DECIMAL, PIECE_BYTES as u32 + 1)?;
+    Some(max as u16)
+}
+
+/// A mode, in octal.
+pub fn read_mode(word: &[u8]) -> Option<u16>
+    ensures { result ≡ mode_of word.now }
+{
+    let mode = read_number(word, OCTAL, 0o1000)?;
+    Some(mode as u16)
+}
+
+/// `r`, `w` or `rw`.
+pub fn read_access(word: &[u8]) -> Option<Access>
+    ensures { result ≡ access_of word.now }
+{
+    match word {
+        b"r" => Some(Access::Read),
+        b"w" => Some(Access::Write),
+        b"rw" => Some(Access::ReadWrite),
+        _ => None,
+    }
+}
+
+fn is_flag_letter(byte: u8) -> bool
+    ensures { result ≡ is_flag_letter byte }
+{
+    byte == b'c' || byte == b'x' || byte == b't' || byte == b'a' || byte == b'n' || byte == b'e'
+}
+
+fn are_flag_letters(word: &[u8]) -> bool
+    ensures { result ≡ list_all is_flag_letter word.now }
+{
+    word.iter().all(|byte| is_flag_letter(*byte))
+}
+
+/// How often a letter stands in a word.
+fn times(letter: u8, word: &[u8]) -> usize
+    ensures { result ≡ times letter word.now }
+{
+    word.iter().filter(|byte| **byte == letter).count()
+}
+
+/// Whether each letter stands in a word at most once.
+fn stand_once(letters: &[u8], word: &[u8]) -> bool
+    ensures { result ≡ list_all (λ letter. nat_le (times letter word.now) 1) letters.now }
+{
+    letters.iter().all(|letter| times(*letter, word) <= 1)
+}
+
+/// The flags whose letters stand in a word.
+fn flags_in(word: &[u8]) -> OpenFlags
+    ensures { result ≡ flags_in word.now }
+{
+    OpenFlags {
+        create: times(b'c', word) > 0,
+        exclusive: times(b'x', word) > 0,
+        truncate: times(b't', word) > 0,
+        append: times(b'a', word) > 0,
+        nonblock: times(b'n', word) > 0,
+        on_exec: times(b'e', word) > 0,
+    }
+}
+
+/// A dash for no flags, or their letters, each at most once, in any order.
+#[tactic(auto, unfolding(crate::specs::Values::flags_of))]
+pub fn read_flags(word: &[u8]) -> Option<OpenFlags>
+    ensures { result ≡ flags_of word.now }
+{
+    if word == b"-".as_slice() {
+        return Some(OpenFlags::default());
+    }
+    if word.is_empty() || !are_flag_letters(word) || !stand_once(b"cxtane", word) {
+        return None;
+    }
+    Some(flags_in(word))
+}
