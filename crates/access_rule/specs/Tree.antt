@@ -1,6 +1,6 @@
 -- The file tree: a finite map from paths to what their nodes are, and the walk of a path through it, after
 -- path_resolution of POSIX.1, 4.13, and hier(7).
-use Rattle.std.specs.Prelude.{ℕ, Bool, true, false, not, ◌||◌, ◌==◌, List, [], ◌∷◌, ◌++◌, length, take, nat_lt, Option, Some, None, is_some, if◌then◌else◌, codes, filter, drop, ◌-◌}
+use Rattle.std.specs.Prelude.{ℕ, Bool, true, false, not, ◌||◌, ◌==◌, List, [], ◌∷◌, ◌++◌, length, take, nat_lt, Option, Some, None, is_some, if◌then◌else◌, codes, filter, ◌-◌}
 use Rattle.std.specs.List.{slice_split}
 use Rattle.std.specs.Str.{byte, bytes_eq}
 use Rattle.acl_core.specs.declared.entry.Entry.{Entry}
@@ -86,9 +86,9 @@ walk_from tree here (part ∷ parts) =
     if nat_lt 255 (length part) then ended name_long
     else (if not (is_dir_record (tree here)) then ended not_dir
     else passing here (
-      if is_parent part then walk_from tree (parent_of here) parts
-      else (if is_some (tree (here ++ part ∷ [])) then walk_from tree (here ++ part ∷ []) parts
-      else ended (absent_end here part parts))))
+    if is_parent part then walk_from tree (parent_of here) parts
+    else (if is_some (tree (here ++ part ∷ [])) then walk_from tree (here ++ part ∷ []) parts
+    else ended (absent_end here part parts))))
 
 -- where a path begins: at the root where its first byte is a slash
 abbrev pub begin_at : List (List ℕ) → List ℕ → List (List ℕ)

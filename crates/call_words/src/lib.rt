@@ -7,6 +7,7 @@
 
 mod calls;
 mod events;
+mod image;
 mod limits;
 mod node;
 mod rules;
@@ -14,6 +15,7 @@ mod text;
 
 pub use calls::{Access, Call, OpenFlags};
 pub use events::{Decision, Event, Reply, Wakes};
+pub use image::{IMAGES, Image};
 pub use limits::{
     DESCRIPTORS, INPUT_PLACES, LINES, OUTPUT_BYTES, RAW_LINE, SCRIPT_LINE_BYTES, SLOTS,
     TRAIL_EVENTS,
