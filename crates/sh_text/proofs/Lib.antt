@@ -1,4 +1,12 @@
+mod Results
 mod WordReading
 mod ItemReading
 mod JobReading
 mod WordSpelling
+mod WordTaking
+mod Blanks
+mod ItemTaking
+mod ItemSteps
+mod CommandTaking
+mod JobTaking
+mod LineTaking
