@@ -190,7 +190,7 @@ word_item : (c : Command) (bytes : List ℕ) → begins_word bytes ≡ true → 
 word_item c [] begins = absurd cc
 word_item c (b ∷ bytes) begins = let none = no_marks b (goes_on b begins) in at_word c bytes b none.0 none.1
 
-third : {A : Type 0} (a b : Bool) (x y z : A) → a ≡ false → b ≡ false → cond a x (cond b y z) ≡ z
+pub third : {A : Type 0} (a b : Bool) (x y z : A) → a ≡ false → b ≡ false → cond a x (cond b y z) ≡ z
 third a b x y z no_a no_b = rw (no_a, no_b) refl
 
 word_begins_item : (c : Command) (bytes : List ℕ) → begins_word bytes ≡ true → begins_item c bytes ≡ true

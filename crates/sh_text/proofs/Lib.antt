@@ -10,3 +10,5 @@ mod ItemSteps
 mod CommandTaking
 mod JobTaking
 mod LineTaking
+mod FaultPlaces
+mod FirstFaults

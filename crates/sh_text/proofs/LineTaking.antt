@@ -63,6 +63,11 @@ jobs_step jobs bytes some =
     within_enough (length rest) (length (after_blanks job.1)) (jobs ++ job.0 ∷ []) (after_blanks job.1) (omega (arith, no_more job.1, job_shorter rest job e)) (omega arith))
     ∙ ap (λ (r : Result (Job × List ℕ) ℕ). r >>= λ job. jobs_within (length (after_blanks job.1)) (jobs ++ job.0 ∷ []) (after_blanks job.1)) (job_same bytes)
 
+-- blanks before them change nothing
+pub jobs_same : (jobs : List Job) (bytes other : List ℕ) → after_blanks bytes ≡ after_blanks other → jobs_from jobs bytes ≡ jobs_from jobs other
+unfolding jobs_from
+jobs_same jobs bytes other same = ap (λ (rest : List ℕ). jobs_within (length rest) jobs rest) same
+
 -- what is read is spelled
 
 -- the jobs so far and those of the bytes

@@ -112,4 +112,5 @@ fn faults_have_their_places(rt: HostRuntime) -> Result<(), Fail> {
 fn laws_are_called() {
     laws::words_are_read_as_spelled();
     laws::lines_are_read_as_spelled();
+    laws::line_faults_are_first();
 }
