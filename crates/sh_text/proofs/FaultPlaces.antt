@@ -10,6 +10,7 @@ use Rattle.sh_text.specs.declared.tree.Job.{Job}
 use Rattle.sh_text.specs.declared.jobs.TheConstants.{MOST_COMMANDS}
 use Rattle.sh_text.specs.Bytes.{is_blank, ends_word, after_blanks, begins}
 use Rattle.sh_text.specs.Reading.{◌>>=◌, word_from, word_at, target_at, output_at, begins_item, item_at, no_items, command_at, commands_within, commands_at, ending_at, job_at}
+use Rattle.sh_text.specs.Faults.{AreBytes}
 use Rattle.sh_text.proofs.Results.{alike, then_assoc, err_not_ok}
 use Rattle.sh_text.proofs.Blanks.{blank_skipped, other_stays, no_blank}
 use Rattle.sh_text.proofs.WordTaking.{at_end, at_quote, at_backslash, at_bare, at_close, at_inner, at_escaped}
@@ -386,15 +387,27 @@ by_target before c role =
     let w = by_blank before c role (codes "a") in
     (w.0, target_in before c role 97 (codes " a") refl ∙ rw (at_bare [] (codes " a") 97 refl refl refl) w.1)
 
-completes : (s : State) → (more : List ℕ) × Completes s more
+one_byte : AreBytes (codes "a")
+one_byte = (omega arith, tt)
+
+two_bytes : AreBytes (codes " a")
+two_bytes = (omega arith, one_byte)
+
+three_bytes : AreBytes (codes "a a")
+three_bytes = (omega arith, two_bytes)
+
+close_bytes : AreBytes (codes "' a")
+close_bytes = (omega arith, two_bytes)
+
+completes : (s : State) → (more : List ℕ) × AreBytes more × Completes s more
 unfolding Completes
-completes (between jobs) = ([], (jobs, jobs_none jobs [] refl))
-completes (within before c) = (codes "a", by_word before c)
-completes (at_mark before c) = let w = by_target before c (as_output false) in (codes "a a", (w.0, mark_in before c 97 (codes " a") refl ∙ w.1))
-completes (at_target before c role) = (codes "a a", by_target before c role)
-completes (in_word before c role Bare so_far) = (codes " a", by_blank before c role so_far)
-completes (in_word before c role Quoted so_far) = let w = by_blank before c role so_far in (codes "' a", (w.0, rw (at_close so_far (codes " a") 39 refl) w.1))
-completes (in_word before c role Escaped so_far) = let w = by_blank before c role (so_far ++ codes "a") in (codes "a a", (w.0, rw (at_escaped so_far (codes " a") 97) w.1))
+completes (between jobs) = ([], tt, (jobs, jobs_none jobs [] refl))
+completes (within before c) = (codes "a", one_byte, by_word before c)
+completes (at_mark before c) = let w = by_target before c (as_output false) in (codes "a a", three_bytes, (w.0, mark_in before c 97 (codes " a") refl ∙ w.1))
+completes (at_target before c role) = (codes "a a", three_bytes, by_target before c role)
+completes (in_word before c role Bare so_far) = (codes " a", two_bytes, by_blank before c role so_far)
+completes (in_word before c role Quoted so_far) = let w = by_blank before c role so_far in (codes "' a", close_bytes, (w.0, rw (at_close so_far (codes " a") 39 refl) w.1))
+completes (in_word before c role Escaped so_far) = let w = by_blank before c role (so_far ++ codes "a") in (codes "a a", three_bytes, (w.0, rw (at_escaped so_far (codes " a") 97) w.1))
 
 -- a fault: after the front a line can be completed, and after the front and the byte at the fault none
 
@@ -408,7 +421,7 @@ pub record Failed (read : List ℕ → Result (List Job) ℕ) (bytes : List ℕ)
   pub rest : List ℕ
   pub parts : bytes ≡ front ++ rest
   pub place : left ≡ length rest
-  pub alive : (more : List ℕ) × (jobs : List Job) × (read (front ++ more) ≡ Ok jobs)
+  pub alive : (more : List ℕ) × AreBytes more × (jobs : List Job) × (read (front ++ more) ≡ Ok jobs)
   pub dead : (other : List ℕ) → SameFirst rest other → (l : ℕ) × (read (front ++ other) ≡ Err l)
 
 abbrev bad : ℕ → Result (List Job) ℕ
@@ -423,14 +436,14 @@ fails_end s left e = elim (ends s) [
   | inl ok ↦ err_not_ok left ok.0 (sym e ∙ ok.1)
   | inr fault ↦
       let w = completes s in
-      record { front = []; rest = []; parts = refl; place = err_is left 0 (sym e ∙ fault); alive = (w.0, w.1.0, w.1.1); dead = λ other same. absurd same }
+      record { front = []; rest = []; parts = refl; place = err_is left 0 (sym e ∙ fault); alive = (w.0, w.1, w.2.0, w.2.1); dead = λ other same. absurd same }
 ]
 
 fails_there : (s : State) (b : ℕ) (t : List ℕ) (left : ℕ) → ((t : List ℕ) → rest_of s (b ∷ t) ≡ Err (length (b ∷ t))) → rest_of s (b ∷ t) ≡ Err left → Failed (rest_of s) (b ∷ t) left
 unfolding Completes
 fails_there s b t left stops e =
     let w = completes s in
-    record { front = []; rest = b ∷ t; parts = refl; place = err_is left (length (b ∷ t)) (sym e ∙ stops t); alive = (w.0, w.1.0, w.1.1); dead = dead }
+    record { front = []; rest = b ∷ t; parts = refl; place = err_is left (length (b ∷ t)) (sym e ∙ stops t); alive = (w.0, w.1, w.2.0, w.2.1); dead = dead }
   where
     dead : (other : List ℕ) → SameFirst (b ∷ t) other → (l : ℕ) × (rest_of s other ≡ Err l)
     dead [] same = absurd same
@@ -442,7 +455,7 @@ fails_later s next b t left goes f = record {
   rest = f.rest;
   parts = ap (λ (r : List ℕ). b ∷ r) f.parts;
   place = f.place;
-  alive = (f.alive.0, f.alive.1, goes (f.front ++ f.alive.0) ∙ f.alive.2);
+  alive = (f.alive.0, f.alive.1, f.alive.2, goes (f.front ++ f.alive.0) ∙ f.alive.3);
   dead = λ other same. let d = f.dead other same in (d.0, goes (f.front ++ other) ∙ d.1);
 }
 

@@ -4,6 +4,7 @@ use Rattle.std.proofs.lemmas.List.{take_at}
 use Rattle.sh_text.specs.declared.tree.Job.{Job}
 use Rattle.sh_text.specs.declared.tree.Line.{Line}
 use Rattle.sh_text.specs.Reading.{jobs_at, placed, line_of}
+use Rattle.sh_text.specs.Grammar.{SpellsLine}
 use Rattle.sh_text.specs.Faults.{BeginsLine, IsFirstFault}
 use Rattle.sh_text.proofs.Results.{err_not_ok}
 use Rattle.sh_text.proofs.LineTaking.{jobs_from, jobs_at_from, line_spelled}
@@ -22,14 +23,14 @@ line_not_read text left line e read = err_not_ok (length text - left) line (sym 
 
 before : (text front : List ℕ) (left : ℕ) (f : Failed (jobs_from []) text left) → front ≡ f.front → BeginsLine front
 before text front left f is =
-    let whole : line_of (front ++ f.alive.0) ≡ Ok (line_with f.alive.1) = line_read (front ++ f.alive.0) f.alive.1 (ap (λ (t : List ℕ). jobs_from [] (t ++ f.alive.0)) is ∙ f.alive.2) in
-    (f.alive.0, line_with f.alive.1, (line_spelled (front ++ f.alive.0) (line_with f.alive.1)).0 whole)
+    let whole : line_of (front ++ f.alive.0) ≡ Ok (line_with f.alive.2) = line_read (front ++ f.alive.0) f.alive.2 (ap (λ (t : List ℕ). jobs_from [] (t ++ f.alive.0)) is ∙ f.alive.3) in
+    (f.alive.0, f.alive.1, line_with f.alive.2, (line_spelled (front ++ f.alive.0) (line_with f.alive.2)).0 whole)
 
 none_there : (text front tail : List ℕ) (b left : ℕ) (f : Failed (jobs_from []) text left) → f.rest ≡ b ∷ tail → front ≡ f.front ++ b ∷ [] → BeginsLine front → ⊥
 none_there text front tail b left f rest is begins =
     let dead = f.dead (b ∷ begins.0) (rw rest refl) in
     let same : front ++ begins.0 ≡ f.front ++ b ∷ begins.0 = ap (λ (t : List ℕ). t ++ begins.0) is ∙ append_assoc f.front (b ∷ []) begins.0 in
-    line_not_read (front ++ begins.0) dead.0 begins.1 (ap (jobs_from []) same ∙ dead.1) ((line_spelled (front ++ begins.0) begins.1).1 begins.2)
+    line_not_read (front ++ begins.0) dead.0 begins.2 (ap (jobs_from []) same ∙ dead.1) ((line_spelled (front ++ begins.0) begins.2).1 begins.3)
 
 there : (text rest : List ℕ) (left : ℕ) (f : Failed (jobs_from []) text left) (place : ℕ) → f.rest ≡ rest → place ≡ length f.front → place < length text → BeginsLine (take (place + 1) text) → ⊥
 there text [] left f place is at less begins = absurd (omega (arith, at, ap length f.parts, length-append f.front f.rest, ap length is))
@@ -56,3 +57,7 @@ unfolding line_of
 line_fault text at e =
     let p = placed_err text (jobs_at text) at e in
     rw p.2 (first_fault text p.0 (line_fails text p.0 (sym (jobs_at_from text) ∙ p.1)))
+
+-- and no line is spelled so
+pub line_fault_alone : (text : List ℕ) (at : ℕ) → line_of text ≡ Err at → IsFirstFault text at × ((line : Line) → SpellsLine text line → ⊥)
+line_fault_alone text at e = (line_fault text at e, λ line spells. err_not_ok at line (sym e ∙ (line_spelled text line).1 spells))

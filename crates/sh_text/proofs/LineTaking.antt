@@ -134,7 +134,7 @@ placed_ok : (text : List ℕ) (r : Result (List Job) ℕ) (line : Line) → plac
 placed_ok text (Ok jobs) line e = ap (λ (l : Line). Ok l.jobs) cc
 placed_ok text (Err left) line e = absurd cc
 
-line_taken : (text : List ℕ) (line : Line) → line_of text ≡ Ok line → SpellsLine text line
+pub line_taken : (text : List ℕ) (line : Line) → line_of text ≡ Ok line → SpellsLine text line
 unfolding line_of
 line_taken text line e =
     let t = jobs_taken (length (after_blanks text)) [] text line.jobs (omega arith) (sym (jobs_at_from text) ∙ placed_ok text (jobs_at text) line e) in

@@ -11,8 +11,10 @@ ghost use Rattle.sh_text.specs.Faults.{IsFirstFault};
 /// understood: it is read as the bytes that the parts mean, up to the first byte that ends a word.
 /// Nothing else is read as a word.
 pub fn words_are_read_as_spelled()
-    ensures read { (first : Part) (more : List Part) (rest : List ℕ) → AllByRecursion IsPart (first ∷ more) → begins_word rest ≡ false → word_at (flat_map spelled (first ∷ more) ++ rest) ≡ Ok (flat_map meant (first ∷ more), rest) }
-    ensures only { (bytes word rest : List ℕ) → (word_at bytes ≡ Ok (word, rest)) ↔ SpellsWord bytes word rest }
+    ensures read { (first : Part) (more : List Part) (rest : List ℕ) → AllByRecursion IsPart (first ∷ more)
+        → begins_word rest ≡ false
+        → word_at (flat_map spelled (first ∷ more) ++ rest) ≡ Ok (flat_map meant (first ∷ more), rest) }
+    ensures exact { (bytes word rest : List ℕ) → (word_at bytes ≡ Ok (word, rest)) ↔ SpellsWord bytes word rest }
 {}
 
 /// A text is read as a line exactly where the grammar spells that line so.
