@@ -1,4 +1,14 @@
+mod Results
 mod WordReading
 mod ItemReading
 mod JobReading
 mod WordSpelling
+mod WordTaking
+mod Blanks
+mod ItemTaking
+mod ItemSteps
+mod CommandTaking
+mod JobTaking
+mod LineTaking
+mod FaultPlaces
+mod FirstFaults

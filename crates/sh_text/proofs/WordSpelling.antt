@@ -54,7 +54,7 @@ unfolding word_from
 ends_there word [] e = refl
 ends_there word (b ∷ rest) e = rw (not_false (ends_word b) e) refl
 
-part_begins : (part : Part) (rest : List ℕ) → IsPart part → begins_word (spelled part ++ rest) ≡ true
+pub part_begins : (part : Part) (rest : List ℕ) → IsPart part → begins_word (spelled part ++ rest) ≡ true
 part_begins (bare b) rest is = ap not is.0
 part_begins (quoted bytes) rest is = refl
 part_begins (escaped b) rest is = refl

@@ -1,6 +1,7 @@
 //! A whole line.
 ghost use Rattle.std.specs.Prelude.{◌≡◌};
 ghost use Rattle.sh_text.specs.Reading.{Reads, line_of};
+ghost use Rattle.sh_text.specs.Faults.{ReadsSpelled};
 
 use crate::fault::{ShFault, Stop};
 use crate::jobs::jobs;
@@ -24,7 +25,10 @@ use std::alloc::Global;
 /// memory runs out.
 #[tactic(auto, unfolding(crate::specs::Reading::line_of))]
 pub fn read_line(alloc: Global, text: &[u8]) -> Result<Line, ShFault>
-    ensures { Reads result (line_of text.now) }
+    // By the grammar.
+    ensures spelled { ReadsSpelled text.now result }
+    // The same, as a function that computes.
+    ensures value { Reads result (line_of text.now) }
 {
     match jobs(alloc, text) {
         Ok(jobs) => Ok(Line { jobs }),

@@ -111,4 +111,6 @@ fn faults_have_their_places(rt: HostRuntime) -> Result<(), Fail> {
 #[test]
 fn laws_are_called() {
     laws::words_are_read_as_spelled();
+    laws::lines_are_read_as_spelled();
+    laws::line_faults_are_first();
 }

@@ -1,0 +1,5 @@
+use Rattle.sh_text.proofs.LineTaking.{line_spelled}
+use Rattle.sh_text.proofs.laws.lines_are_read_as_spelled.Goals as goal
+
+pub returns : goal.returns
+returns c = line_spelled
