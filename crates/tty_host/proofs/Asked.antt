@@ -1,12 +1,10 @@
 -- Events that can be asked so far.
-use Rattle.std.proofs.Common.{◌≡◌, ℕ, zero, suc, ◌+◌, ◌<◌, ◌≤◌, Bool, true, false, ◌&&◌, List, [], ◌∷◌, length, drop, Some, All, slice_index_or, IsTrue, drop-cons, drop_of_length-le, add-one, refl, sym, ap, ◌∙◌, arith}
+use Rattle.std.proofs.Common.{◌≡◌, ℕ, ◌+◌, ◌<◌, ◌≤◌, true, ◌&&◌, List, length, drop, Some, drop-cons, drop_of_length-le, add-one, refl}
 use Rattle.std.specs.Prelude.{slice_get}
 use Rattle.std.specs.List.{list_all}
-use Rattle.std.proofs.lemmas.Bool.{and_parts}
 use Rattle.std.proofs.lemmas.Option.{slice_get_within, get_or_from_slice_get}
 use Rattle.call_words.specs.declared.events.Event.{Event}
-use Rattle.call_words.specs.Events.{MayBeUsed}
-use Rattle.machine_model.specs.Step.{is_built, MayBeAsked}
+use Rattle.machine_model.specs.Step.{is_built}
 
 -- the next event decides about itself
 pub built-next : (events : List Event) (i : ℕ) (e : Event) → slice_get events i ≡ Some e → list_all is_built (drop i events) ≡ (is_built e && list_all is_built (drop (i + 1) events))
