@@ -13,6 +13,8 @@ use Rattle.vnode_tree.specs.declared.entry.Entry.{Entry}
 use Rattle.vnode_tree.specs.Nodes.{Named, IsLive, named_at, path_in, path_of, record_of, tree_of, with_node, with_record, with_attrs, with_default, new_node, changed, is_name, count_of, ChangesAt}
 use Rattle.vnode_tree.specs.Links.{entry_at, path_up, record_in, nodes_of, with_entry, entry_with_attrs, entry_with_default}
 use Rattle.vnode_tree.specs.Kept.{IsKept, size_in}
+use Rattle.vnode_tree.specs.Contents.{size_of, space_of}
+use Rattle.vnode_tree.specs.Standard.{Keeps}
 use Rattle.vnode_tree.proofs.Paths.{AtRoot, Below, path_is as step_of, root_path, same_node_path}
 use Rattle.vnode_tree.proofs.Counts.{live_within, count_with_free, at_most_one}
 use Rattle.vnode_tree.proofs.Trees.{ArePathsApart, Owns, changes_at, at_its_path, FoundAt, found_at}
@@ -165,6 +167,9 @@ pub record Made (nodes : List (Option Named)) (n : ℕ) (path : List (List ℕ))
   pub live : IsLive (nodes_of others) n
   pub changes : ChangesAt path (Some node) nodes (nodes_of others)
   pub room : count_of nodes < 1024
+  pub count : count_of (nodes_of others) ≡ count_of nodes + 1
+  pub space : space_of (nodes_of others) ≡ space_of nodes + length node.contents
+  pub keeps : Keeps nodes (nodes_of others)
 
 name_some : (name : List ℕ) → IsTrue (is_name name) → 0 < length name
 name_some [] e = absurd (let no : false ≡ true = e in cc)
@@ -181,7 +186,23 @@ dir_is_live : (o : Option Named) → IsTrue (is_dir_record (option_map (λ (x : 
 dir_is_live None e = absurd (let no : false ≡ true = e in cc)
 dir_is_live (Some named) e = refl
 
-made_here : (entries : List (Option Entry)) (n : ℕ) (entry : Entry) → IsKept entries → position is_none entries ≡ Some n → IsTrue (is_dir_record (record_of (nodes_of entries) entry.dir)) → IsTrue (is_name entry.name) → entry.attrs.is_dir ≡ is_dir entry.kind → entry.contents ≡ [] → tree_of (nodes_of entries) (path_of (nodes_of entries) entry.dir ++ entry.name ∷ []) ≡ None
+count_put : (nodes : List (Option Named)) (n : ℕ) (named : Named) → n < length nodes → named_at nodes n ≡ None → count_of (set nodes n (Some named)) ≡ count_of nodes + 1
+count_put nodes n named inside free =
+    let f : Option Named → ℕ = λ o. cond (is_some o) 1 0 in
+    let all : sum_by f (set nodes n (Some named)) + f (get_or nodes n None) ≡ sum_by f nodes + f (Some named) = sum_by-set f nodes n (Some named) None inside in
+    let none : f (get_or nodes n None) ≡ 0 = ap f free in
+    omega (arith, all, none)
+
+space_put : (nodes : List (Option Named)) (n : ℕ) (named : Named) → n < length nodes → named_at nodes n ≡ None → space_of (set nodes n (Some named)) ≡ space_of nodes + length named.node.contents
+space_put nodes n named inside free =
+    let all : sum_by size_of (set nodes n (Some named)) + size_of (get_or nodes n None) ≡ sum_by size_of nodes + size_of (Some named) = sum_by-set size_of nodes n (Some named) None inside in
+    omega (arith, all, ap size_of free)
+
+is_dead : (o : Option Named) → o ≡ None → IsSome o → ⊥
+is_dead None e live = let wrong : false ≡ true = live in cc
+is_dead (Some named) e live = cc
+
+made_here : (entries : List (Option Entry)) (n : ℕ) (entry : Entry) → IsKept entries → position is_none entries ≡ Some n → IsTrue (is_dir_record (record_of (nodes_of entries) entry.dir)) → IsTrue (is_name entry.name) → entry.attrs.is_dir ≡ is_dir entry.kind → sum_by size_in entries + length entry.contents ≤ 4194304 → tree_of (nodes_of entries) (path_of (nodes_of entries) entry.dir ++ entry.name ∷ []) ≡ None
     → Made (nodes_of entries) n (path_of (nodes_of entries) entry.dir ++ entry.name ∷ []) (record_in entry) (set entries n (Some entry))
 made_here entries n entry kept found dir named dirs empty none =
     let at = position-Some is_none entries n None found in
@@ -213,9 +234,12 @@ made_here entries n entry kept found dir named dirs empty none =
       live = subst (λ o. IsSome o) (sym put) refl;
       changes = rw path_is (subst (ChangesAt (there.path ++ entry.name ∷ []) (Some (record_in entry)) (nodes_of entries)) same_nodes whole);
       room = omega (arith, count_with_free (nodes_of entries) n inside free_node, length-nodes entries, kept.size);
+      count = ap count_of done.nodes ∙ count_put (nodes_of entries) n (record { path = there.path ++ entry.name ∷ []; node = record_in entry }) inside free_node;
+      space = ap space_of done.nodes ∙ space_put (nodes_of entries) n (record { path = there.path ++ entry.name ∷ []; node = record_in entry }) inside free_node;
+      keeps = λ m live. ap (λ (ns : List (Option Named)). named_at ns m) done.nodes ∙ get_or-set_other (nodes_of entries) n m (Some (record { path = there.path ++ entry.name ∷ []; node = record_in entry })) None (λ same. is_dead (named_at (nodes_of entries) m) (ap (named_at (nodes_of entries)) same ∙ free_node) live);
     }
 
-pub made : (entries : List (Option Entry)) (nodes : List (Option Named)) (n : ℕ) (entry : Entry) → nodes_of entries ≡ nodes → IsKept entries → position is_none entries ≡ Some n → IsTrue (is_dir_record (record_of nodes entry.dir)) → IsTrue (is_name entry.name) → entry.attrs.is_dir ≡ is_dir entry.kind → entry.contents ≡ [] → tree_of nodes (path_of nodes entry.dir ++ entry.name ∷ []) ≡ None
+pub made : (entries : List (Option Entry)) (nodes : List (Option Named)) (n : ℕ) (entry : Entry) → nodes_of entries ≡ nodes → IsKept entries → position is_none entries ≡ Some n → IsTrue (is_dir_record (record_of nodes entry.dir)) → IsTrue (is_name entry.name) → entry.attrs.is_dir ≡ is_dir entry.kind → sum_by size_in entries + length entry.contents ≤ 4194304 → tree_of nodes (path_of nodes entry.dir ++ entry.name ∷ []) ≡ None
     → Made nodes n (path_of nodes entry.dir ++ entry.name ∷ []) (record_in entry) (set entries n (Some entry))
 made entries nodes n entry view kept found dir named dirs empty none =
     subst (λ (ns : List (Option Named)). IsTrue (is_dir_record (record_of ns entry.dir)) → tree_of ns (path_of ns entry.dir ++ entry.name ∷ []) ≡ None → Made ns n (path_of ns entry.dir ++ entry.name ∷ []) (record_in entry) (set entries n (Some entry))) view
@@ -232,9 +256,8 @@ entry_written f size entries there new n whole same is =
     all_written size new entries whole (ap (λ (es : List (Option Entry)). length es) new_is ∙ length-set entries n (option_map f (entry_at entries n))) ∙ new_is
 
 -- a node is made in the first free place
-pub made_call : (entries there : List (Option Entry)) (nodes : List (Option Named)) (n : ℕ) (entry : Entry) (dir : ℕ) (name : List ℕ) → nodes_of entries ≡ nodes → IsKept entries → there ≡ entries → Some n ≡ position is_none there → entry.dir ≡ dir → entry.name ≡ name → IsTrue (is_dir_record (record_of nodes dir)) → IsTrue (is_name name) → entry.attrs.is_dir ≡ is_dir entry.kind → entry.contents ≡ [] → tree_of nodes (path_of nodes dir ++ name ∷ []) ≡ None
-    → Made nodes n (path_of nodes dir ++ name ∷ []) (new_node entry.kind entry.attrs entry.default) (set entries n (Some entry))
+pub made_call : (entries there : List (Option Entry)) (nodes : List (Option Named)) (n : ℕ) (entry : Entry) (dir : ℕ) (name : List ℕ) → nodes_of entries ≡ nodes → IsKept entries → there ≡ entries → Some n ≡ position is_none there → entry.dir ≡ dir → entry.name ≡ name → IsTrue (is_dir_record (record_of nodes dir)) → IsTrue (is_name name) → entry.attrs.is_dir ≡ is_dir entry.kind → sum_by size_in entries + length entry.contents ≤ 4194304 → tree_of nodes (path_of nodes dir ++ name ∷ []) ≡ None
+    → Made nodes n (path_of nodes dir ++ name ∷ []) (new_node entry.kind entry.attrs entry.default entry.contents) (set entries n (Some entry))
 made_call entries there nodes n entry dir name view kept same found dir_is name_is is_a_dir named dirs empty none =
     let done = made entries nodes n entry view kept (ap (position is_none) (sym same) ∙ sym found) (rw dir_is is_a_dir) (rw name_is named) dirs empty (rw (dir_is, name_is) none) in
-    let node_is : record_in entry ≡ new_node entry.kind entry.attrs entry.default = ap (λ (bytes : List ℕ). record { kind = entry.kind; attrs = entry.attrs; default = entry.default; contents = bytes }) empty in
-    rw (← dir_is, ← name_is, ← node_is) done
+    rw (← dir_is, ← name_is) done

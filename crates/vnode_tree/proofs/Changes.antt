@@ -122,7 +122,7 @@ abbrev pub not_here : ℕ → ℕ → Type 0
 not_here n i = i ≢ n
 
 -- a node is made in a free place
-pub made_entry : (entries : List (Option Entry)) (n : ℕ) (entry : Entry) (above : List (List ℕ)) → IsKept entries → n < length entries → entry_at entries n ≡ None → path_up (length entries) entries entry.dir ≡ Some above → 0 < length entry.name → entry.attrs.is_dir ≡ is_dir entry.kind → entry.contents ≡ [] → tree_of (nodes_of entries) (above ++ entry.name ∷ []) ≡ None
+pub made_entry : (entries : List (Option Entry)) (n : ℕ) (entry : Entry) (above : List (List ℕ)) → IsKept entries → n < length entries → entry_at entries n ≡ None → path_up (length entries) entries entry.dir ≡ Some above → 0 < length entry.name → entry.attrs.is_dir ≡ is_dir entry.kind → sum_by size_in entries + length entry.contents ≤ 4194304 → tree_of (nodes_of entries) (above ++ entry.name ∷ []) ≡ None
     → Changed entries (set entries n (Some entry)) n (Some (record { path = above ++ entry.name ∷ []; node = record_in entry }))
 made_entry entries n entry above kept below free up named dirs empty none =
     let others : List (Option Entry) = set entries n (Some entry) in
@@ -184,8 +184,7 @@ made_entry entries n entry above kept below free up named dirs empty none =
         ];
         space =
             let sums : sum_by size_in (set entries n (Some entry)) + size_in (get_or entries n None) ≡ sum_by size_in entries + size_in (Some entry) = sum_by-set size_in entries n (Some entry) None below in
-            let new : size_in (Some entry) ≡ 0 = ap (λ (xs : List ℕ). length xs) empty in
-            omega (arith, sums, new, kept.space);
+            omega (arith, sums, ap size_in free, empty);
       };
       nodes = nodes_after entries others n (Some (record { path = above ++ entry.name ∷ []; node = record_in entry })) size below
           (named_here others n entry (above ++ entry.name ∷ []) there path_here)

@@ -3,3 +3,4 @@ pub mod Links
 pub mod Kept
 pub mod Contents
 pub mod Walks
+pub mod Standard

@@ -74,9 +74,9 @@ with_default list node = record node { default = list }
 abbrev pub with_contents : List ℕ → NodeRecord → NodeRecord
 with_contents bytes node = record node { contents = bytes }
 
--- a new node, which holds nothing
-abbrev pub new_node : Kind → Attrs → Option (List Entry) → NodeRecord
-new_node kind attrs default = record { kind = kind; attrs = attrs; default = default; contents = [] }
+-- a new node
+abbrev pub new_node : Kind → Attrs → Option (List Entry) → List ℕ → NodeRecord
+new_node kind attrs default contents = record { kind = kind; attrs = attrs; default = default; contents = contents }
 
 -- a name that a node may have: no dots alone, and no slash
 abbrev pub is_name : List ℕ → Bool

@@ -1,5 +1,5 @@
 //! What a file holds.
-ghost use Rattle.std.specs.Prelude.{◌≡◌, ℕ, ◌+◌, ◌-◌, ◌<◌, ◌≤◌, ◌^◌, [], ◌++◌, length, take, drop, replicate, OnOk, OnErr};
+ghost use Rattle.std.specs.Prelude.{◌≡◌, ℕ, ◌+◌, ◌-◌, ◌<◌, ◌≤◌, ◌^◌, [], ◌++◌, length, take, drop, replicate, OnOk, OnErr, IfOk};
 ghost use Rattle.vnode_tree.specs.Contents.{bytes_at, written};
 
 use call_words::Piece;
@@ -47,6 +47,14 @@ impl Contents {
         Contents {
             bytes: Vec::new(alloc),
         }
+    }
+
+    /// The same with bytes at its end.
+    pub(crate) fn with(mut self, bytes: &[u8]) -> Result<Self, AllocError>
+        ensures { IfOk result (λ longer. longer ≡ self ++ bytes.now) }
+    {
+        self.bytes.extend_from_slice(bytes)?;
+        Ok(self)
     }
 
     /// How many bytes there are.

@@ -1,7 +1,8 @@
 //! The tree: its nodes, made, changed and taken away.
-ghost use Rattle.std.specs.Prelude.{◌≡◌, ◌≢◌, ◌↔◌, ℕ, ◌<◌, ◌≤◌, List, [], ◌∷◌, ◌++◌, Some, None, Ok, Err, option_map, option_copied, MatchOption, length, IsTrue, IsErr, IfOk, OnOk, OnErr};
+ghost use Rattle.std.specs.Prelude.{◌≡◌, ◌≢◌, ◌↔◌, ℕ, ◌<◌, ◌≤◌, List, [], ◌∷◌, ◌++◌, Some, None, Ok, Err, option_map, option_copied, MatchOption, length, IsTrue, IsErr, IfOk, OnOk, OnErr, ◌+◌};
 ghost use Rattle.access_rule.specs.Tree.{NodeRecord, is_dir, is_dir_record, parent_of};
 ghost use Rattle.vnode_tree.specs.Contents.{bytes_at, with_written, space_of};
+ghost use Rattle.vnode_tree.specs.Standard.{Keeps};
 ghost use Rattle.vnode_tree.specs.declared.TheConstants.{NODES, FILE_SPACE};
 ghost use Rattle.vnode_tree.specs.declared.tree.WriteFault.TheVariants.{Space};
 ghost use Rattle.vnode_tree.specs.Nodes.{IsLive, IsFile, IsAt, named_at, path_of, record_of, tree_of, with_node, with_record, with_attrs, with_default, with_contents, new_node, is_name, count_of, ChangesAt};
@@ -141,12 +142,40 @@ impl Tree {
         requires kind { attrs.is_dir ≡ is_dir kind }
         ensures full { IsErr result ↔ (count_of self.old ≡ NODES) }
         ensures free { IfOk result (λ node. named_at self.old node ≡ None) }
-        ensures made { IfOk result (λ node. self.new ≡ with_node self.old node (Some (record { path = path_of self.old dir ++ name.now ∷ []; node = new_node kind attrs default }))) }
+        ensures made { IfOk result (λ node. self.new ≡ with_node self.old node (Some (record { path = path_of self.old dir ++ name.now ∷ []; node = new_node kind attrs default [] }))) }
         ensures live { IfOk result (λ node. IsLive self.new node) }
-        ensures changes { OnOk result (ChangesAt (path_of self.old dir ++ name.now ∷ []) (Some (new_node kind attrs default)) self.old self.new) }
+        ensures changes { OnOk result (ChangesAt (path_of self.old dir ++ name.now ∷ []) (Some (new_node kind attrs default [])) self.old self.new) }
         ensures err { OnErr result (self.new ≡ self.old) }
     {
-        let alloc = *self.entries.allocator();
+        let contents = Contents::empty(*self.entries.allocator());
+        self.make(dir, name, kind, attrs, default, contents)
+    }
+
+    /// The same for a node that holds something, which there is room for.
+    pub(crate) fn make(
+        &mut self,
+        dir: Node,
+        name: &Name255,
+        kind: Kind,
+        attrs: Attrs,
+        default: Option<Acl>,
+        contents: Contents,
+    ) -> Result<Node, TreeFull>
+        requires dir { IsTrue (is_dir_record (record_of self.old dir)) }
+        requires absent { tree_of self.old (path_of self.old dir ++ name.now ∷ []) ≡ None }
+        requires named { IsTrue (is_name name.now) }
+        requires kind { attrs.is_dir ≡ is_dir kind }
+        requires room { space_of self.old + length contents ≤ FILE_SPACE }
+        ensures full { IsErr result ↔ (count_of self.old ≡ NODES) }
+        ensures free { IfOk result (λ node. named_at self.old node ≡ None) }
+        ensures made { IfOk result (λ node. self.new ≡ with_node self.old node (Some (record { path = path_of self.old dir ++ name.now ∷ []; node = new_node kind attrs default contents }))) }
+        ensures live { IfOk result (λ node. IsLive self.new node) }
+        ensures changes { OnOk result (ChangesAt (path_of self.old dir ++ name.now ∷ []) (Some (new_node kind attrs default contents)) self.old self.new) }
+        ensures count { OnOk result (count_of self.new ≡ count_of self.old + 1) }
+        ensures space { OnOk result (space_of self.new ≡ space_of self.old + length contents) }
+        ensures keeps { OnOk result (Keeps self.old self.new) }
+        ensures err { OnErr result (self.new ≡ self.old) }
+    {
         let Some(place) = free_place(self.entries.as_slice()) else {
             return Err(TreeFull);
         };
@@ -156,7 +185,7 @@ impl Tree {
             kind,
             attrs,
             default,
-            contents: Contents::empty(alloc),
+            contents,
         });
         Ok(Node::of(place as u16))
     }
