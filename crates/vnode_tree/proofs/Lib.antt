@@ -12,3 +12,5 @@ pub mod Cuts
 pub mod Children
 pub mod WalkSteps
 pub mod Walking
+pub mod Maps
+pub mod Roots

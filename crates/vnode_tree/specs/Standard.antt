@@ -1,6 +1,6 @@
 -- The nodes that a boot makes. Which they are, with their modes and elements, is this project's own; their places are those
 -- of hier(7).
-use Rattle.std.specs.Prelude.{◌≡◌, ℕ, Bool, false, List, [], ◌∷◌, ◌++◌, length, map, flat_map, Option, Some, None, slice_index_or, if◌then◌else◌, codes}
+use Rattle.std.specs.Prelude.{◌≡◌, ℕ, ◌+◌, Bool, false, ◌&&◌, nat_lt, nat_le, is_none, List, [], ◌∷◌, ◌++◌, length, map, flat_map, Option, Some, None, slice_index_or, if◌then◌else◌, codes}
 use Rattle.std.specs.List.{range_with_len}
 use Rattle.std.specs.Fmt.{decimal}
 use Rattle.label_core.specs.declared.element.Element.{Element}
@@ -13,8 +13,9 @@ use Rattle.call_words.specs.Images.{images, image_name}
 use Rattle.user_db.specs.declared.boot.Boot.{Boot}
 use Rattle.user_db.specs.declared.user.User.{User}
 use Rattle.access_rule.specs.declared.Attrs.{Attrs}
-use Rattle.access_rule.specs.Tree.{is_dir}
-use Rattle.vnode_tree.specs.Nodes.{Named, IsLive, named_at, tree_of, new_node, count_of}
+use Rattle.access_rule.specs.Tree.{is_dir, is_dir_record}
+use Rattle.vnode_tree.specs.declared.TheConstants.{NODES, NAME_BYTES, FILE_SPACE}
+use Rattle.vnode_tree.specs.Nodes.{Named, IsLive, named_at, record_of, path_of, tree_of, new_node, is_name, count_of}
 use Rattle.vnode_tree.specs.Contents.{space_of}
 
 -- attributes by an owner, a group, a mode and an element
@@ -106,3 +107,12 @@ pub record IsMapOf (table : List (Option Named)) (nodes : List Named) : Type 0 w
 -- nodes that were live are as they were
 abbrev pub Keeps : List (Option Named) → List (Option Named) → Type 0
 Keeps old new = (number : ℕ) → IsLive old number → named_at new number ≡ named_at old number
+
+-- a node of that name may be added to a directory of these, with so many bytes
+abbrev pub can_add : List (Option Named) → ℕ → List ℕ → ℕ → Bool
+can_add nodes dir name size =
+    is_dir_record (record_of nodes dir)
+    && is_none (tree_of nodes (path_of nodes dir ++ name ∷ []))
+    && is_name name && nat_le (length name) NAME_BYTES
+    && nat_lt (count_of nodes) NODES
+    && nat_le (space_of nodes + size) FILE_SPACE

@@ -6,6 +6,7 @@
 
 mod contents;
 mod entry;
+mod standard;
 mod steps;
 mod table;
 mod tree;

@@ -1,0 +1,132 @@
+-- A tree of a root alone.
+use Rattle.std.proofs.Common.{◌≡◌, ◌≢◌, ◌⊎◌, inl, inr, ℕ, zero, suc, ◌+◌, ◌<◌, ◌≤◌, Bool, true, false, cond, List, [], ◌∷◌, ◌++◌, length, map, set, get_or, Option, Some, None, refl, sym, ap, ◌∙◌, arith, subst}
+use Rattle.std.proofs.Math.Path.{fun_ext}
+use Rattle.std.specs.Prelude.{IsSome, is_some, sum_by, count_by}
+use Rattle.std.proofs.lemmas.List.{get_or-set_same, get_or-set_other}
+use Rattle.std.proofs.lemmas.List.Sums.{sum_by-cons}
+use Rattle.std.proofs.lemmas.Bool.{cases_eq}
+use Rattle.access_rule.specs.Tree.{NodeRecord, is_dir}
+use Rattle.call_words.specs.declared.node.Kind.TheVariants as kind
+use Rattle.vnode_tree.specs.declared.entry.Entry.{Entry}
+use Rattle.vnode_tree.specs.Nodes.{Named, named_at, same_path, tree_of, count_of}
+use Rattle.vnode_tree.specs.Links.{entry_at, path_up, record_in, nodes_of}
+use Rattle.vnode_tree.specs.Kept.{IsKept, size_in}
+use Rattle.vnode_tree.specs.Contents.{space_of}
+use Rattle.vnode_tree.specs.Standard.{IsMapOf}
+use Rattle.vnode_tree.proofs.Paths.{root_path}
+use Rattle.vnode_tree.proofs.Counts.{live_within, count_without}
+use Rattle.vnode_tree.proofs.Trees.{ArePathsApart, path_true, path_refl, at_its_path, none_there}
+use Rattle.vnode_tree.proofs.Tables.{named_is, Placed, placed, Listed, listed, paths_apart}
+use Rattle.vnode_tree.proofs.Files.{space_is}
+
+-- a table with a root and nothing else
+pub record IsRootTable (entries : List (Option Entry)) (root : Entry) : Type 0 where
+  pub first : entry_at entries 0 ≡ Some root
+  pub others : (n : ℕ) → n ≢ 0 → entry_at entries n ≡ None
+
+-- a place more without a node changes nothing
+pub push_none : (entries : List (Option Entry)) (n : ℕ) → entry_at (entries ++ None ∷ []) n ≡ entry_at entries n
+push_none [] zero = refl
+push_none [] (suc n) = refl
+push_none (x ∷ entries) zero = refl
+push_none (x ∷ entries) (suc n) = push_none entries n
+
+pub root_table_more : (entries : List (Option Entry)) (root : Entry) → IsRootTable entries root → IsRootTable (entries ++ None ∷ []) root
+root_table_more entries root t = record { first = push_none entries 0 ∙ t.first; others = λ n other. push_none entries n ∙ t.others n other }
+
+sum_zero : {X : Type 0} (f : Option X → ℕ) (xs : List (Option X)) → ((k : ℕ) → f (get_or xs k None) ≡ 0) → sum_by f xs ≡ 0
+sum_zero f [] all = refl
+sum_zero f (x ∷ xs) all = omega (arith, sum_by-cons f x xs, all 0, sum_zero f xs (λ k. all (suc k)))
+
+-- what a root has
+pub record IsRoot (root : Entry) : Type 0 where
+  pub name : root.name ≡ []
+  pub kind : root.kind ≡ kind.Dir
+  pub is_dir : root.attrs.is_dir ≡ true
+  pub empty : root.contents ≡ []
+
+only_root : (entries : List (Option Entry)) (root : Entry) (n : ℕ) (e : Entry) → IsRootTable entries root → entry_at entries n ≡ Some e → (n ≡ 0) × (root ≡ e)
+only_root entries root n e t at = elim (cases_eq n 0) [
+  | inl here ↦
+      let both : Some root ≡ Some e = sym t.first ∙ ap (entry_at entries) (sym here) ∙ at in
+      let same : root ≡ e = cc in
+      (here, same)
+  | inr other ↦ absurd (let no : None ≡ Some e = sym (t.others n other) ∙ at in cc)
+]
+
+pub root_kept : (entries : List (Option Entry)) (root : Entry) → length entries ≡ 1024 → IsRootTable entries root → IsRoot root → IsKept entries
+root_kept entries root size t is = record {
+  size = size;
+  root = (root, t.first, is.name, is.kind);
+  names = λ n e at other. absurd (other (only_root entries root n e t at).0);
+  placed = λ n live. elim (cases_eq n 0) [
+    | inl here ↦ subst (λ o. IsSome o) (sym (ap (path_up (length entries) entries) here ∙ subst (λ k. path_up k entries 0 ≡ Some []) (sym size) (root_path 1023 entries root t.first))) refl
+    | inr other ↦ absurd (let no : is_some (entry_at entries n) ≡ false = ap is_some (t.others n other) in cc)
+  ];
+  apart = λ n m e f at there dir name. (only_root entries root n e t at).0 ∙ sym (only_root entries root m f t there).0;
+  kinds = λ n e at. let one = (only_root entries root n e t at).1 in subst (λ (x : Entry). x.attrs.is_dir ≡ is_dir x.kind) one (is.is_dir ∙ sym (ap is_dir is.kind));
+  space = omega (arith, sum_zero size_in entries (λ k. elim (cases_eq k 0) [
+    | inl here ↦ ap (λ i. size_in (entry_at entries i)) here ∙ ap size_in t.first ∙ ap (λ (xs : List ℕ). length xs) is.empty
+    | inr other ↦ ap size_in (t.others k other)
+  ]));
+}
+
+-- the node of the root
+pub root_named : (entries : List (Option Entry)) (root : Entry) → length entries ≡ 1024 → IsRootTable entries root → IsRoot root → named_at (nodes_of entries) 0 ≡ Some (record { path = []; node = record_in root })
+root_named entries root size t is =
+    let kept = root_kept entries root size t is in
+    let there = placed entries 0 root kept t.first in
+    let up : path_up (length entries) entries 0 ≡ Some [] = subst (λ k. path_up k entries 0 ≡ Some []) (sym size) (root_path 1023 entries root t.first) in
+    let same : there.path ≡ [] = let both : Some there.path ≡ Some [] = sym there.up ∙ up in cc in
+    there.named ∙ ap (λ (p : List (List ℕ)). Some (record { path = p; node = record_in root })) same
+
+nothing_else : (entries : List (Option Entry)) (root : Entry) (n : ℕ) (named : Named) → length entries ≡ 1024 → IsRootTable entries root → IsRoot root → named_at (nodes_of entries) n ≡ Some named → (n ≡ 0) × (named.path ≡ [])
+nothing_else entries root n named size t is at =
+    let found = listed entries n named at in
+    let here = (only_root entries root n found.entry t found.at).0 in
+    let both : Some named ≡ Some (record { path = []; node = record_in root }) = sym at ∙ ap (named_at (nodes_of entries)) here ∙ root_named entries root size t is in
+    let same : named ≡ record { path = []; node = record_in root } = cc in
+    (here, ap (λ (x : Named). x.path) same)
+
+dead : (entries : List (Option Entry)) (root : Entry) (k : ℕ) → length entries ≡ 1024 → IsRootTable entries root → IsRoot root → k ≢ 0 → named_at (nodes_of entries) k ≡ None
+dead entries root k size t is other = elim (named_at (nodes_of entries) k) as (λ o. named_at (nodes_of entries) k ≡ o → o ≡ None) [
+  | None ↦ λ e. refl
+  | Some named ↦ λ e. absurd (other (nothing_else entries root k named size t is e).0)
+] refl
+
+sizes_zero : (entries : List (Option Entry)) (root : Entry) → IsRootTable entries root → IsRoot root → sum_by size_in entries ≡ 0
+sizes_zero entries root t is = sum_zero size_in entries (λ k. elim (cases_eq k 0) [
+  | inl here ↦ ap (λ i. size_in (entry_at entries i)) here ∙ ap size_in t.first ∙ ap (λ (xs : List ℕ). length xs) is.empty
+  | inr other ↦ ap size_in (t.others k other)
+])
+
+-- a tree of a root alone is the map of the root
+pub root_map : (entries : List (Option Entry)) (root : Entry) → length entries ≡ 1024 → IsRootTable entries root → IsRoot root → IsMapOf (nodes_of entries) (record { path = []; node = record_in root } ∷ [])
+unfolding tree_of
+root_map entries root size t is =
+    let kept = root_kept entries root size t is in
+    let named = root_named entries root size t is in
+    let none : (k : ℕ) → cond (is_some (get_or (set (nodes_of entries) 0 None) k None)) 1 0 ≡ 0 = λ k. elim (cases_eq k 0) [
+      | inl here ↦ ap (λ i. cond (is_some (get_or (set (nodes_of entries) 0 None) i None)) 1 0) here ∙ ap (λ (o : Option Named). cond (is_some o) 1 0) (get_or-set_same (nodes_of entries) 0 None None (live_within (nodes_of entries) 0 (record { path = []; node = record_in root }) named))
+      | inr other ↦ ap (λ (o : Option Named). cond (is_some o) 1 0) (get_or-set_other (nodes_of entries) 0 k None None other ∙ dead entries root k size t is other)
+    ] in
+    record {
+      there = fun_ext (λ p. elim (same_path p []) as (λ b. same_path p [] ≡ b → tree_of (nodes_of entries) p ≡ cond b (Some (record_in root)) None) [
+        | true ↦ λ e. ap (tree_of (nodes_of entries)) (path_true p [] e) ∙ at_its_path (nodes_of entries) 0 (record { path = []; node = record_in root }) (paths_apart entries kept) named
+        | false ↦ λ e. none_there (nodes_of entries) p (λ m b at same.
+            let path = (nothing_else entries root m b size t is at).1 in
+            let yes : same_path p [] ≡ true = ap (λ q. same_path q []) (sym same ∙ path) in
+            let wrong : true ≡ false = sym yes ∙ e in
+            cc)
+      ] refl);
+      count = omega (arith, count_without (nodes_of entries) 0 (record { path = []; node = record_in root }) named, sum_zero (λ (o : Option Named). cond (is_some o) 1 0) (set (nodes_of entries) 0 None) none);
+      space = space_is entries (nodes_of entries) refl kept ∙ sizes_zero entries root t is ∙ sym (ap (λ (xs : List ℕ). 0 + length xs) is.empty);
+    }
+
+past_root : (root : Entry) (n : ℕ) → n ≢ 0 → entry_at (Some root ∷ []) n ≡ None
+past_root root zero other = absurd (other refl)
+past_root root (suc n) other = refl
+
+-- a table whose places are those of a root alone
+pub first_alone : (entries : List (Option Entry)) (root : Entry) → ((k : ℕ) → entry_at entries k ≡ entry_at (Some root ∷ []) k) → IsRootTable entries root
+first_alone entries root same = record { first = same 0; others = λ n other. same n ∙ past_root root n other }
