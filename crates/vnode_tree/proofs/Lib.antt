@@ -14,3 +14,4 @@ pub mod WalkSteps
 pub mod Walking
 pub mod Maps
 pub mod Roots
+pub mod Standards

@@ -50,7 +50,7 @@ map_grows old new nodes x m free changes count space =
       space = omega (arith, space, m.space, space_more nodes x);
     }
 
-both_true : (a b : Bool) → (a && b) ≡ true → (a ≡ true) × (b ≡ true)
+pub both_true : (a b : Bool) → (a && b) ≡ true → (a ≡ true) × (b ≡ true)
 both_true true b e = (refl, e)
 both_true false b e = absurd cc
 
@@ -112,3 +112,6 @@ next_stage old new nodes x s grows keeps = record { map = grows nodes s.map; roo
 -- a directory may be added to the root of such a table
 pub dir_fits : (table : List (Option Named)) (nodes : List Named) (name : List ℕ) → Stage table nodes → can_join nodes root_node name 0 ≡ true → IsTrue (can_add table 0 name 0)
 dir_fits table nodes name s e = can_add_is table nodes root_node 0 name 0 s.map s.root e
+
+pub keeps_on : (old mid new : List (Option Named)) → Keeps old mid → Keeps mid new → Keeps old new
+keeps_on old mid new k l n live = l n (subst (λ (o : Option Named). IsSome o) (sym (k n live)) live) ∙ k n live

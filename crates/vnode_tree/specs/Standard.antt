@@ -2,7 +2,7 @@
 -- of hier(7).
 use Rattle.std.specs.Prelude.{◌≡◌, ℕ, ◌+◌, Bool, false, ◌&&◌, nat_lt, nat_le, is_none, List, [], ◌∷◌, ◌++◌, length, map, flat_map, Option, Some, None, slice_index_or, if◌then◌else◌, codes}
 use Rattle.std.specs.List.{range_with_len}
-use Rattle.std.specs.Fmt.{decimal}
+use Rattle.std.specs.Str.{byte}
 use Rattle.label_core.specs.declared.element.Element.{Element}
 use Rattle.label_core.specs.declared.element.Element.TheVariants as element
 use Rattle.acl_core.specs.Mode.{minimal_list}
@@ -43,16 +43,24 @@ mode_666 = 438
 abbrev pub root_node : Named
 root_node = super_node [] kind.Dir mode_755 element.Low []
 
+abbrev pub bin_node : Named
+bin_node = super_node (codes "bin" ∷ []) kind.Dir mode_755 element.Low []
+
+abbrev pub etc_node : Named
+etc_node = super_node (codes "etc" ∷ []) kind.Dir mode_755 element.Low []
+
+abbrev pub home_dir_node : Named
+home_dir_node = super_node (codes "home" ∷ []) kind.Dir mode_755 element.Low []
+
+abbrev pub dev_node : Named
+dev_node = super_node (codes "dev" ∷ []) kind.Dir mode_755 element.Equal []
+
+abbrev pub tmp_node : Named
+tmp_node = super_node (codes "tmp" ∷ []) kind.Dir mode_777 element.Equal []
+
 -- the directories
 abbrev pub standard_dirs : List Named
-standard_dirs =
-    root_node
-    ∷ super_node (codes "bin" ∷ []) kind.Dir mode_755 element.Low []
-    ∷ super_node (codes "etc" ∷ []) kind.Dir mode_755 element.Low []
-    ∷ super_node (codes "home" ∷ []) kind.Dir mode_755 element.Low []
-    ∷ super_node (codes "dev" ∷ []) kind.Dir mode_755 element.Equal []
-    ∷ super_node (codes "tmp" ∷ []) kind.Dir mode_777 element.Equal []
-    ∷ []
+standard_dirs = root_node ∷ bin_node ∷ etc_node ∷ home_dir_node ∷ dev_node ∷ tmp_node ∷ []
 
 -- what the file of a program holds
 abbrev pub image_text : Image → List ℕ
@@ -62,9 +70,16 @@ image_text image = codes "image " ++ image_name image ++ codes "\n"
 abbrev pub image_node : Image → Named
 image_node image = super_node (codes "bin" ∷ image_name image ∷ []) kind.File mode_755 element.Low (image_text image)
 
+-- the digit of a number below ten
+abbrev pub digit : ℕ → ℕ
+digit number = byte "0" + number
+
 -- whether a terminal line is on, as a line of text
+abbrev pub tty_line : ℕ → Bool → List ℕ
+tty_line number on = codes "tty " ++ digit number ∷ (if on then codes " on\n" else codes " off\n")
+
 abbrev pub tty_text : List Bool → ℕ → List ℕ
-tty_text on number = codes "tty " ++ decimal number ++ (if slice_index_or on number false then codes " on\n" else codes " off\n")
+tty_text on number = tty_line number (slice_index_or on number false)
 
 abbrev pub ttys_text : List Bool → List ℕ
 ttys_text on = flat_map (tty_text on) (range_with_len 0 8)
@@ -76,9 +91,13 @@ list_nodes on =
     ∷ super_node (codes "etc" ∷ codes "ttys" ∷ []) kind.File mode_644 element.Low (ttys_text on)
     ∷ []
 
+-- the name of a terminal line, of a number below ten
+abbrev pub line_name : ℕ → List ℕ
+line_name number = codes "tty" ++ digit number ∷ []
+
 -- a terminal line
 abbrev pub line_node : ℕ → Named
-line_node number = super_node (codes "dev" ∷ (codes "tty" ++ decimal number) ∷ []) (kind.Line number) mode_600 element.Equal []
+line_node number = super_node (codes "dev" ∷ line_name number ∷ []) (kind.Line number) mode_600 element.Equal []
 
 -- the caller's own line
 abbrev pub tty_node : Named
@@ -88,15 +107,17 @@ tty_node = super_node (codes "dev" ∷ codes "tty" ∷ []) kind.Tty mode_666 ele
 abbrev pub home_node : User → Named
 home_node user = record { path = codes "home" ∷ user.name ∷ []; node = new_node kind.Dir (owned user.cred.uid user.cred.gid kind.Dir mode_700 user.label.active) None [] }
 
+-- the directories and the files of programs
+abbrev pub with_images : List Named
+with_images = standard_dirs ++ map image_node images
+
+-- and the terminal lines
+abbrev pub with_lines : List Named
+with_lines = (with_images ++ map line_node (range_with_len 0 8)) ++ tty_node ∷ []
+
 -- all nodes of a boot
 unfoldable pub standard : Boot → List Named
-standard boot =
-    standard_dirs
-    ++ map image_node images
-    ++ list_nodes boot.on
-    ++ map line_node (range_with_len 0 8)
-    ++ tty_node ∷ []
-    ++ map home_node boot.users
+standard boot = (with_lines ++ list_nodes boot.on) ++ map home_node boot.users
 
 -- a table of nodes has, at each path, what these nodes have, and there are as many, with as many bytes
 pub record IsMapOf (table : List (Option Named)) (nodes : List Named) : Type 0 where

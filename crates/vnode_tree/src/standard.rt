@@ -1,6 +1,5 @@
 //! The nodes that a boot makes.
-ghost use Rattle.std.specs.Prelude.{◌≡◌, ℕ, ◌+◌, ◌*◌, ◌<◌, ◌≤◌, Bool, List, [], ◌∷◌, ◌++◌, length, map, Some, None, IsTrue, IfOk, OnOk, codes};
-ghost use Rattle.std.specs.Fmt.{decimal};
+ghost use Rattle.std.specs.Prelude.{◌≡◌, ℕ, ◌+◌, ◌*◌, ◌<◌, ◌≤◌, Bool, List, [], ◌∷◌, ◌++◌, length, map, Some, None, IsTrue, IfOk, OnOk, codes, if◌then◌else◌};
 ghost use Rattle.label_core.specs.declared.element.Element.{Element};
 ghost use Rattle.label_core.specs.declared.element.Element.TheVariants as element;
 ghost use Rattle.acl_core.specs.Mode.{minimal_list};
@@ -11,7 +10,7 @@ ghost use Rattle.access_rule.specs.Tree.{is_dir, is_dir_record};
 ghost use Rattle.vnode_tree.specs.declared.TheConstants.{NODES, FILE_SPACE};
 ghost use Rattle.vnode_tree.specs.Nodes.{Named, IsLive, named_at, path_of, record_of, tree_of, new_node, is_name, count_of};
 ghost use Rattle.vnode_tree.specs.Contents.{space_of};
-ghost use Rattle.vnode_tree.specs.Standard.{IsMapOf, Keeps, can_add, mode_755, owned, super_node, root_node, standard_dirs, image_text, image_node, list_nodes, line_node, tty_node, home_node, tty_text, ttys_text, standard};
+ghost use Rattle.vnode_tree.specs.Standard.{IsMapOf, Keeps, can_add, mode_755, owned, super_node, root_node, standard_dirs, image_text, image_node, list_nodes, line_node, tty_node, line_name, home_node, tty_line, ttys_text, standard, bin_node, etc_node, home_dir_node, dev_node, with_images, with_lines};
 
 use crate::contents::Contents;
 use crate::entry::{Entry, Name255};
@@ -41,7 +40,60 @@ fn owned(uid: u32, gid: u32, kind: Kind, mode: u16, element: Element) -> Attrs
     }
 }
 
+/// What the file of a program holds.
+fn image_text(alloc: Global, image: Image) -> Result<Contents, NoMemory>
+    ensures { IfOk result (λ text. text ≡ image_text image) }
+{
+    let name = image.name().as_bytes();
+    Contents::empty(alloc)
+        .with(b"image ")?
+        .with(name)?
+        .with(b"\n")
+}
+
+/// The name of a terminal line: `tty` and its number, below ten.
+fn line_name(number: u8) -> [u8; 4]
+    requires { number < 10 }
+    ensures { result ≡ line_name number }
+{
+    [b't', b't', b'y', b'0' + number]
+}
+
+/// A line of text for each terminal line that tells whether it is on.
+fn ttys_text(alloc: Global, on: &[bool; TTYS]) -> Result<Contents, NoMemory>
+    ensures text { IfOk result (λ text. text ≡ ttys_text on.now) }
+    ensures most { IfOk result (λ text. length text ≤ 80) }
+{
+    let mut text = Contents::empty(alloc);
+    for number in 0..TTYS as u8 {
+        text = tty_line(text, number, on[usize::from(number)])?;
+    }
+    Ok(text)
+}
+
+/// How a line of text ends that tells whether a terminal line is on.
+fn on_or_off(on: bool) -> &'static [u8]
+    ensures text { result.now ≡ (if on then codes " on\n" else codes " off\n") }
+    ensures most { length result.now ≤ 5 }
+{
+    if on { b" on\n" } else { b" off\n" }
+}
+
+/// The text with a line more.
+fn tty_line(text: Contents, number: u8, on: bool) -> Result<Contents, NoMemory>
+    requires { number < 10 }
+    ensures line { IfOk result (λ longer. longer ≡ text ++ tty_line number on) }
+    ensures most { IfOk result (λ longer. length longer ≤ length text + 10) }
+{
+    let digit = [b'0' + number];
+    let begun = text.with(b"tty ")?;
+    let numbered = begun.with(&digit)?;
+    let longer = numbered.with(on_or_off(on))?;
+    Ok(longer)
+}
+
 /// The directories that a boot puts nodes into.
+#[derive(Clone, Copy)]
 struct Dirs {
     bin: Node,
     etc: Node,
@@ -133,10 +185,10 @@ impl Tree {
         requires root { named_at self.old 0 ≡ Some root_node }
         requires map { IsMapOf self.old (root_node ∷ []) }
         ensures map { IsMapOf self.new standard_dirs }
-        ensures bin { named_at self.new result.bin ≡ Some (super_node (codes "bin" ∷ []) kind.Dir mode_755 element.Low []) }
-        ensures etc { named_at self.new result.etc ≡ Some (super_node (codes "etc" ∷ []) kind.Dir mode_755 element.Low []) }
-        ensures home { named_at self.new result.home ≡ Some (super_node (codes "home" ∷ []) kind.Dir mode_755 element.Low []) }
-        ensures dev { named_at self.new result.dev ≡ Some (super_node (codes "dev" ∷ []) kind.Dir mode_755 element.Equal []) }
+        ensures bin { named_at self.new result.bin ≡ Some bin_node }
+        ensures etc { named_at self.new result.etc ≡ Some etc_node }
+        ensures home { named_at self.new result.home ≡ Some home_dir_node }
+        ensures dev { named_at self.new result.dev ≡ Some dev_node }
     {
         let bin = self.add_dir(alloc, b"bin", 0o755, Element::Low);
         let etc = self.add_dir(alloc, b"etc", 0o755, Element::Low);
@@ -149,5 +201,87 @@ impl Tree {
             home,
             dev,
         }
+    }
+
+    /// Adds the file of each program to `/bin`.
+    fn add_images(&mut self, alloc: Global, bin: Node) -> Result<(), NoMemory>
+        requires bin { named_at self.old bin ≡ Some bin_node }
+        requires map { IsMapOf self.old standard_dirs }
+        ensures map { OnOk result (IsMapOf self.new with_images) }
+        ensures keeps { OnOk result (Keeps self.old self.new) }
+    {
+        let images = Image::all();
+        for image in &images {
+            let contents = image_text(alloc, *image)?;
+            let name = image.name().as_bytes();
+            self.add_super(bin, name, Kind::File, 0o755, Element::Low, contents);
+        }
+        Ok(())
+    }
+
+    /// Adds the terminal lines to `/dev`, and the caller's own line.
+    fn add_lines(&mut self, alloc: Global, dev: Node)
+        requires dev { named_at self.old dev ≡ Some dev_node }
+        requires map { IsMapOf self.old with_images }
+        ensures map { IsMapOf self.new with_lines }
+        ensures keeps { Keeps self.old self.new }
+    {
+        for number in 0..TTYS as u8 {
+            let contents = Contents::empty(alloc);
+            let kind = Kind::Line(number);
+            let name = line_name(number);
+            self.add_super(dev, &name, kind, 0o600, Element::Equal, contents);
+        }
+        let contents = Contents::empty(alloc);
+        self.add_super(dev, b"tty", Kind::Tty, 0o666, Element::Equal, contents);
+    }
+
+    /// Adds the files of users and of lines to `/etc`.
+    fn add_lists(&mut self, alloc: Global, etc: Node, on: &[bool; TTYS]) -> Result<(), NoMemory>
+        requires etc { named_at self.old etc ≡ Some etc_node }
+        requires map { IsMapOf self.old with_lines }
+        ensures map { OnOk result (IsMapOf self.new (with_lines ++ list_nodes on.now)) }
+        ensures keeps { OnOk result (Keeps self.old self.new) }
+    {
+        let ttys = ttys_text(alloc, on)?;
+        let users = Contents::empty(alloc);
+        self.add_super(etc, b"users", Kind::File, 0o600, Element::Low, users);
+        self.add_super(etc, b"ttys", Kind::File, 0o644, Element::Low, ttys);
+        Ok(())
+    }
+
+    /// Adds the home of each user to `/home`.
+    fn add_homes(&mut self, alloc: Global, home: Node, users: &Users)
+        requires none { users.now ≡ [] }
+        ensures { self.new ≡ self.old }
+    {
+        for user in users.as_slice() {
+            let attrs = owned(
+                user.cred.uid,
+                user.cred.gid,
+                Kind::Dir,
+                0o700,
+                user.label.active().copy(),
+            );
+            let contents = Contents::empty(alloc);
+            self.add(home, user.name.as_slice(), Kind::Dir, attrs, contents);
+        }
+    }
+
+    /// The tree of a boot: its directories, the file of each program in `/bin`, the files of users and of lines in
+    /// `/etc`, the terminal lines in `/dev`, and the home of each user in `/home`.
+    ///
+    /// The boot is one that some boot text gives. The table of nodes is made with room for all of them.
+    pub fn new(alloc: Global, boot: &Boot) -> Result<Tree, NoMemory>
+        requires { IsBoot boot.now }
+        ensures { IfOk result (λ tree. IsMapOf tree (standard boot.now)) }
+    {
+        let mut tree = Tree::of_root(alloc)?;
+        let dirs = tree.add_dirs(alloc);
+        tree.add_images(alloc, dirs.bin)?;
+        tree.add_lines(alloc, dirs.dev);
+        tree.add_lists(alloc, dirs.etc, &boot.on)?;
+        tree.add_homes(alloc, dirs.home, &boot.users);
+        Ok(tree)
     }
 }
