@@ -12,3 +12,6 @@ pub mod Cuts
 pub mod Children
 pub mod WalkSteps
 pub mod Walking
+pub mod NamesOrder
+pub mod NamesText
+pub mod NamesBelow

@@ -3,3 +3,5 @@ pub mod Links
 pub mod Kept
 pub mod Contents
 pub mod Walks
+pub mod Names
+pub mod Children

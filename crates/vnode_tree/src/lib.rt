@@ -6,6 +6,7 @@
 
 mod contents;
 mod entry;
+mod names;
 mod steps;
 mod table;
 mod tree;
@@ -13,6 +14,7 @@ mod walk;
 
 pub use call_words::{Kind, Node};
 pub use entry::Name255;
+pub use names::{TEXT_BYTES, TextText};
 pub use std::alloc::AllocError as NoMemory;
 pub use tree::{Tree, TreeFull, WriteFault};
 pub use walk::{End, MOST_PARTS, Walk};
