@@ -15,3 +15,4 @@ pub mod Walking
 pub mod NamesOrder
 pub mod NamesText
 pub mod NamesBelow
+pub mod NamesLaws

@@ -6,6 +6,7 @@
 
 mod contents;
 mod entry;
+pub mod laws;
 mod names;
 mod steps;
 mod table;
