@@ -15,3 +15,7 @@ pub mod Walking
 pub mod Maps
 pub mod Roots
 pub mod Standards
+pub mod NamesOrder
+pub mod NamesText
+pub mod NamesBelow
+pub mod NamesLaws

@@ -4,3 +4,5 @@ pub mod Kept
 pub mod Contents
 pub mod Walks
 pub mod Standard
+pub mod Names
+pub mod Children

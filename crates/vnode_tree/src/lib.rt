@@ -6,6 +6,8 @@
 
 mod contents;
 mod entry;
+pub mod laws;
+mod names;
 mod standard;
 mod steps;
 mod table;
@@ -14,9 +16,10 @@ mod walk;
 
 pub use call_words::{Kind, Node};
 pub use entry::Name255;
+pub use names::{TEXT_BYTES, TextText};
 pub use std::alloc::AllocError as NoMemory;
 pub use tree::{Tree, TreeFull, WriteFault};
-pub use walk::{End, MOST_PARTS, Walk};
+pub use walk::{End, LONGEST_PATH, MOST_PARTS, Walk};
 
 /// How many nodes a tree has at most, the root among them.
 pub const NODES: usize = 1024;
