@@ -20,16 +20,9 @@ use Rattle.vnode_tree.proofs.Counts.{live_within, count_with_free, at_most_one}
 use Rattle.vnode_tree.proofs.Trees.{ArePathsApart, Owns, changes_at, at_its_path, FoundAt, found_at}
 use Rattle.vnode_tree.proofs.Tables.{length-nodes, Placed, placed, Listed, listed, paths_apart}
 use Rattle.vnode_tree.proofs.Vectors.{all_written}
+use Rattle.vnode_tree.proofs.Positions.{all_fail}
 use Rattle.vnode_tree.proofs.Changes.{Changed, IsLike, changed_entry, made_entry, removed_entry}
 use Rattle.vnode_tree.proofs.Looks.{live_entry, record_is}
-
--- where no place passes, each fails
-pub all_fail : {X : Type 0} (p : X → Bool) (xs : List X) (k : ℕ) (d : X) → position p xs ≡ None → k < length xs → p (get_or xs k d) ≡ false
-all_fail p xs k d none below =
-    elim (cases_lt (position_or_len p xs) (length xs)) [
-      | inl found ↦ absurd (let no : Some (position_or_len p xs) ≡ None = sym (ap (λ b. cond b (Some (position_or_len p xs)) None) (lt-ltb (position_or_len p xs) (length xs) found)) ∙ none in cc)
-      | inr past ↦ fails_before_first p xs k d (omega arith)
-    ]
 
 -- where each place has a node, there are as many nodes as places
 pub count_all : {X : Type 0} (xs : List (Option X)) → ((k : ℕ) → k < length xs → IsSome (get_or xs k None)) → count_by is_some xs ≡ length xs

@@ -16,7 +16,8 @@ use Rattle.vnode_tree.proofs.Counts.{live_within}
 use Rattle.vnode_tree.proofs.Trees.{ArePathsApart, at_its_path, FoundAt, found_at}
 use Rattle.vnode_tree.proofs.Tables.{Placed, placed, Listed, listed, one_node, paths_apart, snoc_same}
 use Rattle.vnode_tree.proofs.Looks.{live_entry}
-use Rattle.vnode_tree.proofs.Calls.{some_entry, all_fail}
+use Rattle.vnode_tree.proofs.Calls.{some_entry}
+use Rattle.vnode_tree.proofs.Positions.{all_fail}
 
 both_true : (a b : Bool) → (a && b) ≡ true → (a ≡ true) × (b ≡ true)
 both_true true b e = (refl, e)

@@ -1,19 +1,30 @@
 -- The parts of a path, one at a time.
-use Rattle.std.proofs.Common.{◌≡◌, ℕ, suc, ◌+◌, ◌-◌, ◌*◌, ◌<◌, ◌≤◌, false, true, List, [], ◌∷◌, ◌++◌, length, take, drop, Option, Some, None, refl, sym, ap, ◌∙◌, arith, ltb, cond, ltb-true, ltb-false, length-drop, length-append, zero}
+use Rattle.std.proofs.Common.{◌≡◌, ℕ, suc, ◌+◌, ◌-◌, ◌*◌, ◌<◌, ◌≤◌, false, true, List, [], ◌∷◌, ◌++◌, length, take, drop, get_or, Option, Some, None, refl, sym, ap, ◌∙◌, arith, ltb, cond, ltb-true, ltb-false, length-drop, length-append, zero}
 use Rattle.std.proofs.Math.Seq.{take-length}
 use Rattle.std.specs.Prelude.{position, not, filter}
 use Rattle.std.specs.List.{slice_split, position_or_len}
-use Rattle.std.proofs.lemmas.List.{drop-drop, append-nil, length-take-le}
+use Rattle.std.proofs.lemmas.List.{drop-drop, append-nil, length-take-le, get_or-take}
 use Rattle.std.proofs.lemmas.List.Splits.{slice_split_none, slice_split_first}
 use Rattle.std.proofs.lemmas.List.Sums.{fails_before_first}
 use Rattle.access_rule.specs.Tree.{steps, is_slash, is_skipped}
-use Rattle.vnode_tree.specs.Walks.{IsCut, step_of, steps_after, bytes_after}
+use Rattle.std.specs.List.{list_all}
+use Rattle.std.proofs.lemmas.List.Quantifiers.{position-Some}
+use Rattle.vnode_tree.proofs.Positions.{all_fail}
+use Rattle.vnode_tree.specs.Walks.{IsCut, is_step, step_of, steps_after, bytes_after}
 
 filter_one : (part : List ℕ) (rest : List (List ℕ)) → filter (λ p. not (is_skipped p)) (part ∷ rest) ≡ step_of part ++ filter (λ p. not (is_skipped p)) rest
 filter_one part rest = elim (is_skipped part) as (λ b. cond (not b) (part ∷ filter (λ p. not (is_skipped p)) rest) (filter (λ p. not (is_skipped p)) rest) ≡ cond b [] (part ∷ []) ++ filter (λ p. not (is_skipped p)) rest) [
   | true ↦ refl
   | false ↦ refl
 ]
+
+-- bytes of which none is a slash
+all_plain : (bytes : List ℕ) → ((k : ℕ) → k < length bytes → is_slash (get_or bytes k 0) ≡ false) → list_all (λ b. not (is_slash b)) bytes ≡ true
+all_plain [] none = refl
+all_plain (b ∷ bytes) none = rw (none 0 (omega arith)) (all_plain bytes (λ k below. none (suc k) (omega arith)))
+
+before_slash : (path : List ℕ) (k : ℕ) → position is_slash path ≡ Some k → (i : ℕ) → i < k → is_slash (get_or path i 0) ≡ false
+before_slash path k found i below = (position-Some is_slash path k 0 found).2 i below
 
 -- a path without a slash is one part
 pub cut_none : (path : List ℕ) → position is_slash path ≡ None → IsCut path path None
@@ -27,7 +38,7 @@ cut_none path h =
           let all : length path ≤ p = ltb-false p (length path) test in
           slice_split_none is_slash path (λ k d below. fails_before_first is_slash path k d (omega arith))
     ] refl h in
-    record { parts = ap (filter (λ p. not (is_skipped p))) whole ∙ filter_one path []; shorter = omega arith }
+    record { parts = ap (filter (λ p. not (is_skipped p))) whole ∙ filter_one path []; shorter = omega arith; no_slash = all_plain path (λ k below. all_fail is_slash path k 0 h below) }
 
 -- the first part stands before the first slash
 split_more : (path : List ℕ) (k : ℕ) → position is_slash path ≡ Some k → (k < length path) × (slice_split is_slash path ≡ take k path ∷ slice_split is_slash (drop (k + 1) path))
@@ -49,6 +60,9 @@ cut_some path part others rest k h w o r =
     record {
       parts = ap (filter (λ p. not (is_skipped p))) more.1 ∙ filter_one (take k path) (slice_split is_slash (drop (k + 1) path)) ∙ ap (λ w. step_of w ++ filter (λ p. not (is_skipped p)) (slice_split is_slash (drop (k + 1) path))) (sym w) ∙ ap (λ xs. step_of part ++ filter (λ p. not (is_skipped p)) (slice_split is_slash xs)) (sym rest_is);
       shorter = omega (arith, more.0, ap (λ (xs : List ℕ). length xs) rest_is, length-drop (k + 1) path, ap (λ (xs : List ℕ). length xs) w, length-take-le k path (omega (arith, more.0)));
+      no_slash = ap (λ (xs : List ℕ). list_all (λ b. not (is_slash b)) xs) w ∙ all_plain (take k path) (λ i below.
+          let size : length (take k path) ≡ k = length-take-le k path (omega (arith, more.0)) in
+          ap is_slash (get_or-take k path i 0 (omega (arith, below, size))) ∙ before_slash path k h i (omega (arith, below, size)));
     }
 
 -- a path cut somewhere
@@ -99,3 +113,6 @@ kept_part path part rest cut keep = cut.parts ∙ ap (λ b. cond b [] (part ∷ 
 
 pub less_left : (path part : List ℕ) (rest : Option (List ℕ)) → IsCut path part rest → bytes_after rest < suc (length path)
 less_left path part rest cut = omega (arith, cut.shorter)
+
+pub kept_step : (path part : List ℕ) (rest : Option (List ℕ)) → IsCut path part rest → is_skipped part ≡ false → is_step part ≡ true
+kept_step path part rest cut keep = rw (keep, cut.no_slash) refl

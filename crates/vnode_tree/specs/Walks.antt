@@ -1,11 +1,12 @@
 -- Walks as contracts see them: with the paths of the nodes that they pass.
-use Rattle.std.specs.Prelude.{◌≡◌, ℕ, suc, ◌+◌, List, [], ◌∷◌, ◌++◌, if◌then◌else◌, map, length, Option, Some, None, All}
-use Rattle.access_rule.specs.Tree.{WalkEnd, Walked, is_skipped, steps}
+use Rattle.std.specs.Prelude.{◌≡◌, ℕ, Bool, true, not, ◌&&◌, suc, ◌+◌, List, [], ◌∷◌, ◌++◌, if◌then◌else◌, map, length, Option, Some, None, All}
+use Rattle.access_rule.specs.Tree.{WalkEnd, Walked, is_skipped, is_slash, is_dir_record, steps}
+use Rattle.std.specs.List.{list_all}
 use Rattle.access_rule.specs.Tree as tree
 use Rattle.vnode_tree.specs.declared.walk.End.{End}
 use Rattle.vnode_tree.specs.declared.walk.End.TheVariants.{Found, Absent, Missing, NotDir, NameLong, PathLong}
 use Rattle.vnode_tree.specs.declared.walk.Walk.{Walk}
-use Rattle.vnode_tree.specs.Nodes.{Named, IsLive, path_of}
+use Rattle.vnode_tree.specs.Nodes.{Named, IsLive, path_of, record_of, tree_of, is_name}
 
 -- the end of a walk, by the path of its node
 abbrev pub seen_end : List (Option Named) → End → WalkEnd
@@ -20,10 +21,21 @@ seen_end nodes PathLong = tree.path_long
 abbrev pub seen : List (Option Named) → Walk → Walked
 seen nodes walk = record { passed = map (path_of nodes) walk.passed.items; end = seen_end nodes walk.end }
 
--- the node of an end, if it has one, is live
+-- a part of a path that does something, and has no slash
+abbrev pub is_step : List ℕ → Bool
+is_step part = not (is_skipped part) && list_all (λ b. not (is_slash b)) part
+
+-- the name is one that a node may have, in a directory that has no node of it
+pub record IsFree (nodes : List (Option Named)) (dir : ℕ) (name : List ℕ) : Type 0 where
+  pub live : IsLive nodes dir
+  pub directory : is_dir_record (record_of nodes dir) ≡ true
+  pub named : is_name name ≡ true
+  pub absent : tree_of nodes (path_of nodes dir ++ name ∷ []) ≡ None
+
+-- the node of an end, if it has one, is live; a name that is absent is free
 abbrev pub IsLiveEnd : List (Option Named) → End → Type 0
 IsLiveEnd nodes (Found node) = IsLive nodes node
-IsLiveEnd nodes (Absent dir name) = IsLive nodes dir
+IsLiveEnd nodes (Absent dir name) = IsFree nodes dir name
 IsLiveEnd nodes Missing = Unit {0}
 IsLiveEnd nodes NotDir = Unit {0}
 IsLiveEnd nodes NameLong = Unit {0}
@@ -47,6 +59,7 @@ step_of part = if is_skipped part then [] else part ∷ []
 pub record IsCut (path part : List ℕ) (rest : Option (List ℕ)) : Type 0 where
   pub parts : steps path ≡ step_of part ++ steps_after rest
   pub shorter : bytes_after rest + length part ≡ length path
+  pub no_slash : list_all (λ b. not (is_slash b)) part ≡ true
 
 -- a walk has gone on: it has passed what it passes, and its end is this
 pub record Passes (whole : Walked) (before after : List (List (List ℕ))) (end : WalkEnd) : Type 0 where

@@ -1,8 +1,8 @@
 //! The parts of a path.
-ghost use Rattle.std.specs.Prelude.{◌≡◌, ℕ, ◌+◌, ◌<◌, ◌≤◌, ◌*◌, List, [], ◌∷◌, length, position, option_copied, MatchOption, IfSome};
+ghost use Rattle.std.specs.Prelude.{◌≡◌, ℕ, ◌+◌, ◌<◌, ◌≤◌, ◌*◌, List, [], ◌∷◌, length, position, option_copied, MatchOption, IfSome, IsTrue};
 ghost use Rattle.std.specs.Bool.{OnFalse};
 ghost use Rattle.access_rule.specs.Tree.{is_slash, is_skipped, steps};
-ghost use Rattle.vnode_tree.specs.Walks.{IsCut, steps_after};
+ghost use Rattle.vnode_tree.specs.Walks.{IsCut, steps_after, is_step};
 
 use std::marker::Model;
 
@@ -50,9 +50,10 @@ fn cut_part(path: &[u8]) -> (&[u8], Option<&[u8]>)
 }
 
 /// The next part that does something, and what is left after it.
-#[tactic(auto, using(crate::proofs::Cuts::skipped_part, crate::proofs::Cuts::kept_part, crate::proofs::Cuts::less_left))]
+#[tactic(auto, using(crate::proofs::Cuts::skipped_part, crate::proofs::Cuts::kept_part, crate::proofs::Cuts::less_left, crate::proofs::Cuts::kept_step))]
 fn next_part<'a>(path: Option<&'a [u8]>) -> Option<(&'a [u8], Option<&'a [u8]>)>
     ensures next { MatchOption result (steps_after (option_copied path.entry) ≡ []) (λ pair. steps_after (option_copied path.entry) ≡ pair.0.now ∷ steps_after (option_copied pair.1)) }
+    ensures step { IfSome result (λ pair. IsTrue (is_step pair.0.now)) }
     ensures some { IfSome result (λ pair. 0 < length pair.0.now) }
 {
     let mut left = path;
@@ -80,6 +81,7 @@ impl<'a> Steps<'a> {
     /// Takes the next part. `None` exactly where none is left.
     pub(crate) fn next(&mut self) -> Option<&'a [u8]>
         ensures next { MatchOption result ((self.old ≡ []) × (self.new ≡ [])) (λ part. self.old ≡ part.now ∷ self.new) }
+        ensures step { IfSome result (λ part. IsTrue (is_step part.now)) }
         ensures some { IfSome result (λ part. 0 < length part.now) }
     {
         match next_part(self.left) {

@@ -61,10 +61,11 @@ impl Tree {
     }
 
     /// Whether a node is a directory. The node is live.
-    #[tactic(auto, using(crate::proofs::Looks::live_entry, crate::proofs::Children::what_is_there))]
+    #[tactic(auto, using(crate::proofs::Looks::live_entry, crate::proofs::Looks::record_is, crate::proofs::Children::what_is_there))]
     pub(crate) fn is_dir(&self, node: Node) -> bool
         requires { IsLive self.now node }
-        ensures { result ≡ is_dir_record (tree_of self.now (path_of self.now node)) }
+        ensures there { result ≡ is_dir_record (tree_of self.now (path_of self.now node)) }
+        ensures itself { result ≡ is_dir_record (record_of self.now node) }
     {
         matches!(entry_of(self.entries.as_slice(), node).kind, Kind::Dir)
     }

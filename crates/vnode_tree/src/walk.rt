@@ -2,7 +2,7 @@
 ghost use Rattle.std.specs.Prelude.{◌≡◌, ◌≤◌, ◌+◌, ℕ, List, map, ◌++◌, length, All, Option};
 ghost use Rattle.access_rule.specs.Tree.{Walked, walk, walk_from, is_parent, absent_end, begin_at};
 ghost use Rattle.vnode_tree.specs.Nodes.{Named, IsLive, path_of, tree_of};
-ghost use Rattle.vnode_tree.specs.Walks.{seen, seen_end, IsLiveEnd, Passes};
+ghost use Rattle.vnode_tree.specs.Walks.{seen, seen_end, IsLiveEnd, IsFree, Passes};
 
 use crate::NAME_BYTES;
 use crate::entry::Name255;
@@ -52,7 +52,7 @@ fn is_parent(part: &[u8]) -> bool
 fn absent_end(dir: Node, part: &[u8], steps: &mut Steps) -> End
     requires { length part.now ≤ NAME_BYTES }
     ensures end { (nodes : List (Option Named)) → seen_end nodes result ≡ absent_end (path_of nodes dir) part.now steps.old }
-    ensures live { (nodes : List (Option Named)) → IsLive nodes dir → IsLiveEnd nodes result }
+    ensures live { (nodes : List (Option Named)) → IsFree nodes dir part.now → IsLiveEnd nodes result }
 {
     if steps.next().is_some() {
         return End::Missing;
