@@ -1,6 +1,6 @@
 -- What the names of a directory are, and what their text holds.
-use Rattle.std.proofs.Common.{◌≡◌, ◌↔◌, ◌⊎◌, inl, inr, ℕ, zero, suc, ◌+◌, ◌<◌, ◌≤◌, Bool, true, false, cond, List, [], ◌∷◌, ◌++◌, length, take, drop, get_or, Option, Some, None, refl, sym, ap, ◌∙◌, arith, subst, add-one, drop-cons}
-use Rattle.std.specs.Prelude.{IsSome, is_some, nat_lt, not}
+use Rattle.std.proofs.Common.{◌≡◌, ◌⊎◌, inl, inr, ℕ, zero, suc, ◌+◌, ◌<◌, ◌≤◌, true, false, cond, List, [], ◌∷◌, ◌++◌, length, take, drop, get_or, Option, Some, None, refl, sym, ap, ◌∙◌, arith, subst, add-one}
+use Rattle.std.specs.Prelude.{IsSome, nat_lt}
 use Rattle.std.specs.Str.{bytes_eq}
 use Rattle.std.specs.List.{Contains, cons_option}
 use Rattle.std.specs.List.Sorted.{IsPermutation}
@@ -9,11 +9,10 @@ use Rattle.std.proofs.lemmas.Slice.Eq.{bytes_eq-Decides}
 use Rattle.std.proofs.lemmas.List.{drop_all}
 use Rattle.std.proofs.lemmas.List.Sorted.{Contains-permutation, IsPermutation-sym}
 use Rattle.std.proofs.Math.Seq.{take-suc}
-use Rattle.access_rule.specs.Tree.{NodeRecord}
-use Rattle.vnode_tree.specs.Nodes.{Named, named_at, path_of, same_path, tree_of}
+use Rattle.vnode_tree.specs.Nodes.{Named, path_of, same_path, tree_of}
 use Rattle.vnode_tree.specs.Names.{name_after, names_below, paths_of, in_order, names_in, joined, fits, fitting, names_text, AreBelow, Rise, IsMostOf}
-use Rattle.vnode_tree.proofs.Trees.{path_true, path_refl, ArePathsApart, FoundAt, found_at}
-use Rattle.vnode_tree.proofs.NamesOrder.{times, times_permutation, in_order_permutes, in_order_ascends, ascends_rises}
+use Rattle.vnode_tree.proofs.Trees.{path_true, path_refl, ArePathsApart, found_at}
+use Rattle.vnode_tree.proofs.NamesOrder.{times, times_permutation, in_order_permutes, in_order_ascends, ascends_rises, ascends_same, rises_ascend, rises_once}
 use Rattle.vnode_tree.proofs.NamesBelow.{after_of, after_is}
 use Rattle.vnode_tree.proofs.NamesText.{next_is}
 
@@ -83,9 +82,10 @@ pub are_below : (nodes : List (Option Named)) (dir : ℕ) → AreBelow nodes (pa
 unfolding names_in
 are_below nodes dir name =
     let names : List (List ℕ) = names_below (paths_of nodes) (path_of nodes dir) in
-    let moved : IsPermutation names (in_order names) = in_order_permutes names in
-    (λ has. let c = Contains-permutation (in_order names) names name (IsPermutation-sym names (in_order names) moved) has in there_from_in nodes (path_of nodes dir) name (in_from_contains name names c.0 c.1 c.2),
-      λ some. Contains-permutation names (in_order names) name moved (contains_from_in name names (in_from_there nodes (path_of nodes dir) name some)))
+    let moved : IsPermutation names (in_order names) = in_order_permutes names in (
+      λ has. let c = Contains-permutation (in_order names) names name (IsPermutation-sym names (in_order names) moved) has in there_from_in nodes (path_of nodes dir) name (in_from_contains name names c.0 c.1 c.2),
+      λ some. Contains-permutation names (in_order names) name moved (contains_from_in name names (in_from_there nodes (path_of nodes dir) name some)),
+    )
 
 -- ---- no name stands twice
 
@@ -127,6 +127,33 @@ unfolding names_in
 they_rise nodes dir all =
     let names : List (List ℕ) = names_below (paths_of nodes) (path_of nodes dir) in
     ascends_rises (in_order names) (in_order_ascends names) (λ z. omega (arith, times_permutation z names (in_order names) (in_order_permutes names), once_below nodes (path_of nodes dir) z all))
+
+-- ---- and no other list does both
+
+times_from_in : (z : List ℕ) (xs : List (List ℕ)) → In z xs → 0 < times z xs
+times_from_in z [] i = absurd i
+times_from_in z (x ∷ xs) i = elim i [
+  | inl here ↦ rw ((bytes_eq-Decides z x).1 (sym here)) (omega arith)
+  | inr there ↦ omega (arith, times_from_in z xs there)
+]
+
+at_least : (z : List ℕ) (xs ys : List (List ℕ)) → (Contains xs z → Contains ys z) → times z xs ≤ 1 → times z xs ≤ times z ys
+at_least z xs ys has once = elim (cases_lt 0 (times z xs)) [
+  | inl some ↦
+      let c = has (contains_from_in z xs (in_from_times z xs some)) in
+      omega (arith, once, times_from_in z ys (in_from_contains z ys c.0 c.1 c.2))
+  | inr none ↦ omega arith
+]
+
+pub only_names : (nodes : List (Option Named)) (dir : ℕ) (names : List (List ℕ)) → ArePathsApart nodes → AreBelow nodes (path_of nodes dir) names → Rise names → names ≡ names_in nodes dir
+only_names nodes dir names all below up =
+    let theirs = they_rise nodes dir all in
+    let whole : AreBelow nodes (path_of nodes dir) (names_in nodes dir) = are_below nodes dir in
+    ascends_same names (names_in nodes dir) (rises_ascend names up) (rises_ascend (names_in nodes dir) theirs) (λ z. omega (
+      arith,
+      at_least z names (names_in nodes dir) (λ c. (whole z).1 ((below z).0 c)) (rises_once names up z),
+      at_least z (names_in nodes dir) names (λ c. (below z).1 ((whole z).0 c)) (rises_once (names_in nodes dir) theirs z),
+    ))
 
 -- ---- a text holds the most names that fit
 

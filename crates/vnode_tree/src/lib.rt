@@ -29,3 +29,6 @@ pub const FILE_SPACE: usize = 4_194_304;
 
 /// How many bytes the name of a node has at most.
 pub const NAME_BYTES: usize = 255;
+
+#[cfg(test)]
+mod names_tests;
