@@ -1,6 +1,6 @@
 -- Children of a directory, and the directory of a node.
-use Rattle.std.proofs.Common.{◌≡◌, ◌≢◌, ◌⊎◌, inl, inr, ℕ, zero, suc, ◌+◌, ◌-◌, ◌<◌, ◌≤◌, Bool, true, false, cond, List, [], ◌∷◌, ◌++◌, length, take, get_or, Option, Some, None, option_map, refl, sym, ap, ◌∙◌, arith, subst, eq-eqb, eqb-true, length-append}
-use Rattle.std.specs.Prelude.{IsSome, is_some, position, ◌&&◌, ◌==◌}
+use Rattle.std.proofs.Common.{◌≡◌, ◌≢◌, ◌⊎◌, inl, inr, ℕ, zero, suc, ◌+◌, ◌-◌, ◌<◌, ◌≤◌, Bool, true, false, cond, List, [], ◌∷◌, ◌++◌, length, take, get_or, Option, Some, None, option_map, refl, sym, ap, ◌∙◌, arith, subst, eq-eqb, ne_eqb, eqb-true, length-append}
+use Rattle.std.specs.Prelude.{IsSome, is_some, position, not, ◌&&◌, ◌==◌}
 use Rattle.std.specs.Str.{bytes_eq}
 use Rattle.std.proofs.lemmas.Slice.Eq.{bytes_eq-Decides}
 use Rattle.std.proofs.lemmas.List.Quantifiers.{position-Some}
@@ -8,8 +8,8 @@ use Rattle.std.proofs.lemmas.List.{take-append-le}
 use Rattle.std.proofs.Math.Seq.{take-length}
 use Rattle.access_rule.specs.Tree.{NodeRecord, is_dir, is_dir_record, parent_of}
 use Rattle.vnode_tree.specs.declared.entry.Entry.{Entry}
-use Rattle.vnode_tree.specs.Nodes.{Named, IsLive, IsAt, named_at, path_in, path_of, record_of, tree_of}
-use Rattle.vnode_tree.specs.Links.{entry_at, path_up, record_in, nodes_of, is_child}
+use Rattle.vnode_tree.specs.Nodes.{Named, IsLive, IsAt, IsLeaf, HasChild, named_at, path_in, path_of, record_of, tree_of}
+use Rattle.vnode_tree.specs.Links.{entry_at, path_up, record_in, nodes_of, is_child, is_in}
 use Rattle.vnode_tree.specs.Kept.{IsKept}
 use Rattle.vnode_tree.proofs.Paths.{AtRoot, Below, path_is, enough_fuel, root_path}
 use Rattle.vnode_tree.proofs.Counts.{live_within}
@@ -135,3 +135,69 @@ parent_at entries there nodes n entry view kept same at other = dir_of entries n
 pub root_at : (entries : List (Option Entry)) (nodes : List (Option Named)) → nodes_of entries ≡ nodes → IsKept entries → IsAt nodes [] 0
 root_at entries nodes view kept =
     at_path entries nodes 0 kept.root.0 [] view kept kept.root.1 (subst (λ k. path_up k entries 0 ≡ Some []) (sym kept.size) (root_path 1023 entries kept.root.0 kept.root.1))
+
+not_empty : (name : List ℕ) → not (length name == 0) ≡ true → 0 < length name
+not_empty [] e = absurd (let wrong : false ≡ true = e in cc)
+not_empty (b ∷ name) e = omega arith
+
+in_parts : (dir : ℕ) (o : Option Entry) → is_in dir o ≡ true → (entry : Entry) × (o ≡ Some entry) × (entry.dir ≡ dir) × (0 < length entry.name)
+in_parts dir None e = absurd cc
+in_parts dir (Some entry) e =
+    let both = both_true (entry.dir == dir) (not (length entry.name == 0)) e in
+    (entry, refl, eqb-true entry.dir dir both.0, not_empty entry.name both.1)
+
+-- a node in a directory has a path there
+pub has_child : (entries there : List (Option Entry)) (nodes : List (Option Named)) (dir n : ℕ) → nodes_of entries ≡ nodes → IsKept entries → IsLive nodes dir → there ≡ entries → position (is_in dir) there ≡ Some n → HasChild nodes (path_of nodes dir)
+has_child entries there nodes dir n view kept live same found =
+    let here = position-Some (is_in dir) entries n None (ap (position (is_in dir)) (sym same) ∙ found) in
+    let child = in_parts dir (entry_at entries n) here.1 in
+    let other : n ≢ 0 = λ zero_is.
+    let one : kept.root.0 ≡ child.0 = let both : Some kept.root.0 ≡ Some child.0 = sym kept.root.1 ∙ ap (entry_at entries) (sym zero_is) ∙ child.1 in cc in
+    omega (arith, child.3, ap (λ (x : Entry). length x.name) (sym one), ap (λ (x : List ℕ). length x) kept.root.2) in
+    let node_at = placed entries n child.0 kept child.1 in
+    let above = some_entry (entry_at entries dir) (live_entry entries nodes dir view live) in
+    let dir_at = placed entries dir above.0 kept above.1 in
+    let dir_path : path_of nodes dir ≡ dir_at.path = ap (λ ns. path_of ns dir) (sym view) ∙ ap path_in dir_at.named in
+    elim (path_is (length entries) entries n node_at.path node_at.up) [
+      | inl root ↦ absurd (other root.here)
+      | inr below ↦
+          let one : below.entry ≡ child.0 = let both : Some below.entry ≡ Some child.0 = sym below.at ∙ child.1 in cc in
+          let up : path_up below.more entries dir ≡ Some below.above = subst (λ (d : ℕ). path_up below.more entries d ≡ Some below.above) (ap (λ (x : Entry). x.dir) one ∙ child.2) below.up in
+          let more : path_up (length entries) entries dir ≡ Some below.above = enough_fuel (length entries) below.more entries dir below.above (omega (arith, below.enough)) up in
+          let above_is : below.above ≡ path_of nodes dir = (let both : Some below.above ≡ Some dir_at.path = sym more ∙ dir_at.up in let same_path : below.above ≡ dir_at.path = cc in same_path) ∙ sym dir_path in
+          let path_here : node_at.path ≡ path_of nodes dir ++ (below.entry).name ∷ [] = below.whole ∙ ap (λ (q : List (List ℕ)). q ++ (below.entry).name ∷ []) above_is in
+          ((below.entry).name, (at_path entries nodes n child.0 (path_of nodes dir ++ (below.entry).name ∷ []) view kept child.1 (node_at.up ∙ ap (λ (q : List (List ℕ)). Some q) path_here)).some)
+    ]
+
+is_named : (name : List ℕ) → 0 < length name → not (length name == 0) ≡ true
+is_named name some =
+    let other : ◌≢◌ {A = ℕ} (length name) 0 = λ e. omega (arith, e, some) in
+    rw (ne_eqb (length name) 0 other) refl
+
+-- no entry is in the directory, so no node of any name is
+child_none_by : (entries : List (Option Entry)) (nodes : List (Option Named)) (dir : ℕ) (name : List ℕ) → nodes_of entries ≡ nodes → IsKept entries → IsLive nodes dir → ((k : ℕ) → k < length entries → is_in dir (entry_at entries k) ≡ false) → tree_of nodes (path_of nodes dir ++ name ∷ []) ≡ None
+child_none_by entries nodes dir name view kept live fails = subst (λ ns. tree_of ns (path_of ns dir ++ name ∷ []) ≡ None) view (
+    let above = some_entry (entry_at entries dir) (live_entry entries nodes dir view live) in
+    let dir_at = placed entries dir above.0 kept above.1 in
+    let dir_path : path_of (nodes_of entries) dir ≡ dir_at.path = ap path_in dir_at.named in
+    elim (tree_of (nodes_of entries) (path_of (nodes_of entries) dir ++ name ∷ [])) as (λ o. tree_of (nodes_of entries) (path_of (nodes_of entries) dir ++ name ∷ []) ≡ o → o ≡ None) [
+      | None ↦ λ e. refl
+      | Some node ↦ λ e.
+          let found = found_at (nodes_of entries) (path_of (nodes_of entries) dir ++ name ∷ []) node e in
+          let is = listed entries found.place found.named found.at in
+          absurd (elim (path_is (length entries) entries found.place found.named.path is.up) [
+            | inl root ↦ omega (arith, ap (λ (x : List (List ℕ)). length x) (sym root.whole ∙ found.path_is), length-append (path_of (nodes_of entries) dir) (name ∷ []))
+            | inr below ↦
+                let both = snoc_same below.above (path_of (nodes_of entries) dir) (below.entry).name name (sym below.whole ∙ found.path_is) in
+                let same_dir : (below.entry).dir ≡ dir = one_node below.more (length entries) entries (below.entry).dir dir below.above kept below.up (dir_at.up ∙ ap (λ (q : List (List ℕ)). Some q) (sym dir_path ∙ sym both.0)) in
+                let named : 0 < length (below.entry).name = kept.names found.place below.entry below.at below.other in
+                let yes : is_in dir (entry_at entries found.place) ≡ true = ap (is_in dir) below.at ∙ ap (λ b. b && not (length (below.entry).name == 0)) (eq-eqb (below.entry).dir dir same_dir) ∙ is_named (below.entry).name named in
+                let wrong : true ≡ false = sym yes ∙ fails found.place (live_within entries found.place below.entry below.at) in
+                cc
+          ])
+    ] refl)
+
+-- a directory without nodes leads no further
+pub no_child : (entries there : List (Option Entry)) (nodes : List (Option Named)) (dir : ℕ) → nodes_of entries ≡ nodes → IsKept entries → IsLive nodes dir → there ≡ entries → position (is_in dir) there ≡ None → IsLeaf nodes (path_of nodes dir)
+no_child entries there nodes dir view kept live same none name =
+    child_none_by entries nodes dir name view kept live (λ k below. all_fail (is_in dir) entries k None (ap (position (is_in dir)) (sym same) ∙ none) below)

@@ -1,5 +1,5 @@
 -- How the table keeps the tree: each node names its directory.
-use Rattle.std.specs.Prelude.{ℕ, Bool, false, ◌&&◌, zero, suc, ◌==◌, List, [], ◌∷◌, ◌++◌, length, map, Option, Some, None, slice_index_or, slice_set, if◌then◌else◌, option_map}
+use Rattle.std.specs.Prelude.{ℕ, Bool, false, not, ◌&&◌, zero, suc, ◌==◌, List, [], ◌∷◌, ◌++◌, length, map, Option, Some, None, slice_index_or, slice_set, if◌then◌else◌, option_map}
 use Rattle.std.specs.List.{range_with_len}
 use Rattle.std.specs.Str.{bytes_eq}
 use Rattle.acl_core.specs.declared.entry.Entry.{Entry as ListEntry}
@@ -60,3 +60,8 @@ entry_with_default list entry = record entry { default = list }
 
 abbrev pub entry_with_contents : (List ℕ → List ℕ) → Entry → Entry
 entry_with_contents change entry = record entry { contents = change entry.contents }
+
+-- an entry is in that directory; the root, which has no name, is in none
+abbrev pub is_in : ℕ → Option Entry → Bool
+is_in dir None = false
+is_in dir (Some entry) = entry.dir == dir && not (length entry.name == 0)

@@ -95,3 +95,11 @@ pub record IsAt (nodes : List (Option Named)) (path : List (List ℕ)) (number :
   pub live : IsLive nodes number
   pub here : path_of nodes number ≡ path
   pub some : is_some (tree_of nodes path) ≡ true
+
+-- no name leads on from a path
+abbrev pub IsLeaf : List (Option Named) → List (List ℕ) → Type 0
+IsLeaf nodes path = (name : List ℕ) → tree_of nodes (path ++ name ∷ []) ≡ None
+
+-- some name leads on from a path
+abbrev pub HasChild : List (Option Named) → List (List ℕ) → Type 0
+HasChild nodes path = (name : List ℕ) × (is_some (tree_of nodes (path ++ name ∷ [])) ≡ true)

@@ -1,6 +1,6 @@
 //! Places of the table of nodes.
 ghost use Rattle.std.specs.Prelude.{◌≡◌, ℕ, List, IsSome, Some, None, is_none, position, sum_by, slice_index_or, slice_set, ◌+◌, ◌<◌, ◌≤◌, ◌^◌, [], length, OnOk, OnErr};
-ghost use Rattle.vnode_tree.specs.Links.{entry_at, is_child, with_entry, entry_with_attrs, entry_with_default, entry_with_contents};
+ghost use Rattle.vnode_tree.specs.Links.{entry_at, is_child, is_in, with_entry, entry_with_attrs, entry_with_default, entry_with_contents};
 ghost use Rattle.vnode_tree.specs.Contents.{written};
 ghost use Rattle.vnode_tree.specs.declared.TheConstants.{FILE_SPACE};
 ghost use Rattle.vnode_tree.specs.Kept.{size_in};
@@ -44,6 +44,23 @@ pub(crate) fn child_place(entries: &[Option<Entry>], dir: u16, name: &[u8]) -> O
     ensures { result ≡ position (is_child dir name.now) entries.now }
 {
     entries.iter().position(|entry| is_child(entry, dir, name))
+}
+
+/// Whether an entry is in a directory. The root, which has no name, is in none.
+fn is_in(entry: &Option<Entry>, dir: u16) -> bool
+    ensures { result ≡ is_in dir entry.now }
+{
+    match entry {
+        Some(entry) => entry.dir == dir && !entry.name.is_empty(),
+        None => false,
+    }
+}
+
+/// The first place of a node that is in a directory, if there is one.
+pub(crate) fn first_child(entries: &[Option<Entry>], dir: u16) -> Option<usize>
+    ensures { result ≡ position (is_in dir) entries.now }
+{
+    entries.iter().position(|entry| is_in(entry, dir))
 }
 
 /// Changes what access to a node depends on, where the node is there.

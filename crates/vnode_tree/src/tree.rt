@@ -1,16 +1,17 @@
 //! The tree: its nodes, made, changed and taken away.
 ghost use Rattle.std.specs.Prelude.{◌≡◌, ◌≢◌, ◌↔◌, ℕ, ◌<◌, ◌≤◌, List, [], ◌∷◌, ◌++◌, Some, None, Ok, Err, option_map, option_copied, MatchOption, length, IsTrue, IsErr, IfOk, OnOk, OnErr, ◌+◌};
+ghost use Rattle.std.specs.Bool.{OnTrue, OnFalse};
 ghost use Rattle.access_rule.specs.Tree.{NodeRecord, is_dir, is_dir_record, parent_of};
 ghost use Rattle.vnode_tree.specs.Contents.{bytes_at, with_written, space_of};
 ghost use Rattle.vnode_tree.specs.Standard.{Keeps};
 ghost use Rattle.vnode_tree.specs.declared.TheConstants.{NODES, FILE_SPACE};
 ghost use Rattle.vnode_tree.specs.declared.tree.WriteFault.TheVariants.{Space};
-ghost use Rattle.vnode_tree.specs.Nodes.{IsLive, IsFile, IsAt, named_at, path_of, record_of, tree_of, with_node, with_record, with_attrs, with_default, with_contents, new_node, is_name, count_of, ChangesAt};
+ghost use Rattle.vnode_tree.specs.Nodes.{IsLive, IsFile, IsAt, IsLeaf, HasChild, named_at, path_of, record_of, tree_of, with_node, with_record, with_attrs, with_default, with_contents, new_node, is_name, count_of, ChangesAt};
 
 use crate::FILE_SPACE;
 use crate::contents::Contents;
 use crate::entry::{Entry, Name255};
-use crate::table::{self, child_place, entry_of, free_place};
+use crate::table::{self, child_place, entry_of, first_child, free_place};
 use access_rule::Attrs;
 use acl_core::Acl;
 use call_words::{Kind, Node, Piece};
@@ -91,6 +92,18 @@ impl Tree {
         match child_place(self.entries.as_slice(), dir.number(), name) {
             None => None,
             Some(place) => Some(Node::of(place as u16)),
+        }
+    }
+
+    /// Whether a node has children. The node is live.
+    pub fn has_children(&self, node: Node) -> bool
+        requires { IsLive self.now node }
+        ensures some { OnTrue result (HasChild self.now (path_of self.now node)) }
+        ensures none { OnFalse result (IsLeaf self.now (path_of self.now node)) }
+    {
+        match first_child(self.entries.as_slice(), node.number()) {
+            Some(_) => true,
+            None => false,
         }
     }
 
@@ -194,7 +207,7 @@ impl Tree {
     /// Takes a node away. It is live, has no children, and is not the root.
     pub fn remove(&mut self, node: Node)
         requires live { IsLive self.old node }
-        requires leaf { (name : List ℕ) → tree_of self.old (path_of self.old node ++ name ∷ []) ≡ None }
+        requires leaf { IsLeaf self.old (path_of self.old node) }
         requires below { path_of self.old node ≢ [] }
         ensures gone { self.new ≡ with_node self.old node None }
         ensures changes { ChangesAt (path_of self.old node) None self.old self.new }
