@@ -1,11 +1,9 @@
 -- What each change of the tree leaves, as contracts say it.
-use Rattle.std.proofs.Common.{◌≡◌, ◌≢◌, ◌↔◌, ◌⊎◌, inl, inr, ℕ, zero, suc, ◌+◌, ◌<◌, ◌≤◌, Bool, true, false, cond, List, [], ◌∷◌, ◌++◌, length, take, drop, set, get_or, Option, Some, None, option_map, refl, sym, ap, ◌∙◌, arith, subst, ltb, lt-ltb, length-append}
-use Rattle.std.specs.Prelude.{IsSome, IsTrue, is_some, is_none, position, count_by, sum_by, not, ◌&&◌}
-use Rattle.std.specs.List.{position_or_len}
+use Rattle.std.proofs.Common.{◌≡◌, ◌≢◌, inl, inr, ℕ, suc, ◌+◌, ◌<◌, ◌≤◌, true, false, cond, List, [], ◌∷◌, ◌++◌, length, take, drop, set, get_or, Option, Some, None, option_map, refl, sym, ap, ◌∙◌, arith, subst}
+use Rattle.std.specs.Prelude.{IsSome, IsTrue, is_some, is_none, position, count_by, sum_by}
 use Rattle.std.proofs.lemmas.List.{get_or-set_same, get_or-set_other, length-set}
 use Rattle.std.proofs.lemmas.List.Quantifiers.{position-Some}
-use Rattle.std.proofs.lemmas.List.Sums.{sum_by-set, sum_by-cons, fails_before_first}
-use Rattle.std.proofs.lemmas.Bool.{cases_eq, cases_lt}
+use Rattle.std.proofs.lemmas.List.Sums.{sum_by-set, sum_by-cons}
 use Rattle.acl_core.specs.declared.entry.Entry.{Entry as ListEntry}
 use Rattle.access_rule.specs.declared.Attrs.{Attrs}
 use Rattle.access_rule.specs.Tree.{NodeRecord, is_dir, is_dir_record}
@@ -15,13 +13,13 @@ use Rattle.vnode_tree.specs.Links.{entry_at, path_up, record_in, nodes_of, with_
 use Rattle.vnode_tree.specs.Kept.{IsKept, size_in}
 use Rattle.vnode_tree.specs.Contents.{size_of, space_of}
 use Rattle.vnode_tree.specs.Standard.{Keeps}
-use Rattle.vnode_tree.proofs.Paths.{AtRoot, Below, path_is as step_of, root_path, same_node_path}
-use Rattle.vnode_tree.proofs.Counts.{live_within, count_with_free, at_most_one}
-use Rattle.vnode_tree.proofs.Trees.{ArePathsApart, Owns, changes_at, at_its_path, FoundAt, found_at}
-use Rattle.vnode_tree.proofs.Tables.{length-nodes, Placed, placed, Listed, listed, paths_apart}
+use Rattle.vnode_tree.proofs.Paths.{path_is as step_of, root_path, same_node_path}
+use Rattle.vnode_tree.proofs.Counts.{live_within, count_with_free}
+use Rattle.vnode_tree.proofs.Trees.{Owns, changes_at, at_its_path}
+use Rattle.vnode_tree.proofs.Tables.{length-nodes, placed, listed, paths_apart}
 use Rattle.vnode_tree.proofs.Vectors.{all_written}
 use Rattle.vnode_tree.proofs.Positions.{all_fail}
-use Rattle.vnode_tree.proofs.Changes.{Changed, IsLike, changed_entry, made_entry, removed_entry}
+use Rattle.vnode_tree.proofs.Changes.{IsLike, changed_entry, made_entry, removed_entry}
 use Rattle.vnode_tree.proofs.Looks.{live_entry, record_is}
 
 -- where each place has a node, there are as many nodes as places
@@ -236,7 +234,7 @@ pub made : (entries : List (Option Entry)) (nodes : List (Option Named)) (n : �
     → Made nodes n (path_of nodes entry.dir ++ entry.name ∷ []) (record_in entry) (set entries n (Some entry))
 made entries nodes n entry view kept found dir named dirs empty none =
     subst (λ (ns : List (Option Named)). IsTrue (is_dir_record (record_of ns entry.dir)) → tree_of ns (path_of ns entry.dir ++ entry.name ∷ []) ≡ None → Made ns n (path_of ns entry.dir ++ entry.name ∷ []) (record_in entry) (set entries n (Some entry))) view
-        (λ d m. made_here entries n entry kept found d named dirs empty m) dir none
+    (λ d m. made_here entries n entry kept found d named dirs empty m) dir none
 
 -- a node that is live stands within the table
 pub live_inside : (entries : List (Option Entry)) (nodes : List (Option Named)) (n : ℕ) → nodes_of entries ≡ nodes → IsLive nodes n → n < length entries
@@ -254,3 +252,9 @@ pub made_call : (entries there : List (Option Entry)) (nodes : List (Option Name
 made_call entries there nodes n entry dir name view kept same found dir_is name_is is_a_dir named dirs empty none =
     let done = made entries nodes n entry view kept (ap (position is_none) (sym same) ∙ sym found) (rw dir_is is_a_dir) (rw name_is named) dirs empty (rw (dir_is, name_is) none) in
     rw (← dir_is, ← name_is) done
+
+-- the table after one of its places was cleared
+pub place_written : (size : ℕ) (entries there new : List (Option Entry)) (n : ℕ) → size ≡ length entries → there ≡ entries → new ≡ set there n None → take size (new ++ drop (length new) entries) ≡ set entries n None
+place_written size entries there new n whole same is =
+    let new_is : new ≡ set entries n None = is ∙ ap (λ (es : List (Option Entry)). set es n None) same in
+    all_written size new entries whole (ap (λ (es : List (Option Entry)). length es) new_is ∙ length-set entries n None) ∙ new_is

@@ -1,19 +1,18 @@
 -- A node that is changed, made or taken away.
-use Rattle.std.proofs.Common.{◌≡◌, ◌≢◌, ◌⊎◌, inl, inr, ℕ, zero, suc, ◌+◌, ◌<◌, ◌≤◌, Bool, true, false, List, [], ◌∷◌, ◌++◌, length, set, get_or, Option, Some, None, option_map, refl, sym, ap, ◌∙◌, arith, subst, length-append}
-use Rattle.std.specs.Prelude.{IsSome, is_some, count_by, sum_by}
+use Rattle.std.proofs.Common.{◌≡◌, ◌≢◌, inl, inr, ℕ, suc, ◌+◌, ◌<◌, ◌≤◌, false, List, [], ◌∷◌, ◌++◌, length, set, get_or, Option, Some, None, refl, sym, ap, ◌∙◌, arith, subst}
+use Rattle.std.specs.Prelude.{IsSome, is_some, sum_by}
 use Rattle.std.proofs.lemmas.List.{get_or-set_same, get_or-set_other, length-set}
 use Rattle.std.proofs.lemmas.List.Sums.{sum_by-set}
 use Rattle.std.proofs.lemmas.Bool.{cases_eq}
-use Rattle.access_rule.specs.Tree.{NodeRecord, is_dir}
-use Rattle.call_words.specs.declared.node.Kind.TheVariants as kind
+use Rattle.access_rule.specs.Tree.{is_dir}
 use Rattle.vnode_tree.specs.declared.entry.Entry.{Entry}
-use Rattle.vnode_tree.specs.Nodes.{Named, named_at, tree_of}
-use Rattle.vnode_tree.specs.Links.{entry_at, path_up, record_in, named_in, named_of, nodes_of}
+use Rattle.vnode_tree.specs.Nodes.{Named, tree_of}
+use Rattle.vnode_tree.specs.Links.{entry_at, path_up, record_in, named_of, nodes_of}
 use Rattle.vnode_tree.specs.Kept.{IsKept, size_in}
-use Rattle.vnode_tree.proofs.Paths.{AtRoot, Below, path_is, Has, kept_path, enough_fuel, exact_fuel, below_path, root_path, same_node_path}
+use Rattle.vnode_tree.proofs.Paths.{path_is, Has, kept_path, enough_fuel, exact_fuel, below_path, same_node_path}
 use Rattle.vnode_tree.proofs.Counts.{live_within, path_counts, count_with_free}
-use Rattle.vnode_tree.proofs.Trees.{ArePathsApart, at_its_path}
-use Rattle.vnode_tree.proofs.Tables.{length-nodes, named_is, Placed, placed, Listed, listed, one_node, paths_apart, nodes_after, named_stays, after_set}
+use Rattle.vnode_tree.proofs.Trees.{at_its_path}
+use Rattle.vnode_tree.proofs.Tables.{placed, paths_apart, nodes_after, named_stays, after_set}
 
 -- the table after a change of one place
 pub record Changed (entries others : List (Option Entry)) (n : ℕ) (x : Option Named) : Type 0 where

@@ -1,20 +1,20 @@
 -- Children of a directory, and the directory of a node.
-use Rattle.std.proofs.Common.{◌≡◌, ◌≢◌, ◌⊎◌, inl, inr, ℕ, zero, suc, ◌+◌, ◌-◌, ◌<◌, ◌≤◌, Bool, true, false, cond, List, [], ◌∷◌, ◌++◌, length, take, get_or, Option, Some, None, option_map, refl, sym, ap, ◌∙◌, arith, subst, eq-eqb, ne_eqb, eqb-true, length-append}
+use Rattle.std.proofs.Common.{◌≡◌, ◌≢◌, inl, inr, ℕ, ◌-◌, ◌<◌, Bool, true, false, List, [], ◌∷◌, ◌++◌, length, Option, Some, None, refl, sym, ap, ◌∙◌, arith, subst, eq-eqb, ne_eqb, eqb-true, length-append}
 use Rattle.std.specs.Prelude.{IsSome, is_some, position, not, ◌&&◌, ◌==◌}
 use Rattle.std.specs.Str.{bytes_eq}
 use Rattle.std.proofs.lemmas.Slice.Eq.{bytes_eq-Decides}
 use Rattle.std.proofs.lemmas.List.Quantifiers.{position-Some}
 use Rattle.std.proofs.lemmas.List.{take-append-le}
 use Rattle.std.proofs.Math.Seq.{take-length}
-use Rattle.access_rule.specs.Tree.{NodeRecord, is_dir, is_dir_record, parent_of}
+use Rattle.access_rule.specs.Tree.{NodeRecord, parent_of}
 use Rattle.vnode_tree.specs.declared.entry.Entry.{Entry}
-use Rattle.vnode_tree.specs.Nodes.{Named, IsLive, IsAt, IsLeaf, HasChild, named_at, path_in, path_of, record_of, tree_of}
+use Rattle.vnode_tree.specs.Nodes.{Named, IsLive, IsAt, IsLeaf, HasChild, path_in, path_of, tree_of}
 use Rattle.vnode_tree.specs.Links.{entry_at, path_up, record_in, nodes_of, is_child, is_in}
 use Rattle.vnode_tree.specs.Kept.{IsKept}
-use Rattle.vnode_tree.proofs.Paths.{AtRoot, Below, path_is, enough_fuel, root_path}
+use Rattle.vnode_tree.proofs.Paths.{path_is, enough_fuel, root_path}
 use Rattle.vnode_tree.proofs.Counts.{live_within}
-use Rattle.vnode_tree.proofs.Trees.{ArePathsApart, at_its_path, FoundAt, found_at}
-use Rattle.vnode_tree.proofs.Tables.{Placed, placed, Listed, listed, one_node, paths_apart, snoc_same}
+use Rattle.vnode_tree.proofs.Trees.{at_its_path, found_at}
+use Rattle.vnode_tree.proofs.Tables.{placed, listed, one_node, paths_apart, snoc_same}
 use Rattle.vnode_tree.proofs.Looks.{live_entry}
 use Rattle.vnode_tree.proofs.Calls.{some_entry}
 use Rattle.vnode_tree.proofs.Positions.{all_fail}
@@ -109,8 +109,8 @@ dir_of entries nodes n entry view kept at other =
           let up : path_up below.more entries entry.dir ≡ Some below.above = subst (λ (x : Entry). path_up below.more entries x.dir ≡ Some below.above) one below.up in
           let more : path_up (length entries) entries entry.dir ≡ Some below.above = enough_fuel (length entries) below.more entries entry.dir below.above (omega (arith, below.enough)) up in
           let parent : parent_of there.path ≡ below.above = rw below.whole (
-              let size : length (below.above ++ (below.entry).name ∷ []) - 1 ≡ length below.above = omega (arith, length-append below.above ((below.entry).name ∷ [])) in
-              rw size (take-append-le (length below.above) below.above ((below.entry).name ∷ []) (omega arith) ∙ take-length below.above)) in
+          let size : length (below.above ++ (below.entry).name ∷ []) - 1 ≡ length below.above = omega (arith, length-append below.above ((below.entry).name ∷ [])) in
+          rw size (take-append-le (length below.above) below.above ((below.entry).name ∷ []) (omega arith) ∙ take-length below.above)) in
           let dir_entry = listed_dir below.more entries entry.dir below.above up in
           rw (path_here, parent) (at_path entries nodes entry.dir dir_entry.0 below.above view kept dir_entry.1 more)
     ]
@@ -201,3 +201,12 @@ child_none_by entries nodes dir name view kept live fails = subst (λ ns. tree_o
 pub no_child : (entries there : List (Option Entry)) (nodes : List (Option Named)) (dir : ℕ) → nodes_of entries ≡ nodes → IsKept entries → IsLive nodes dir → there ≡ entries → position (is_in dir) there ≡ None → IsLeaf nodes (path_of nodes dir)
 no_child entries there nodes dir view kept live same none name =
     child_none_by entries nodes dir name view kept live (λ k below. all_fail (is_in dir) entries k None (ap (position (is_in dir)) (sym same) ∙ none) below)
+
+-- no other node has the root's path
+pub only_root : (entries : List (Option Entry)) (nodes : List (Option Named)) (n : ℕ) → nodes_of entries ≡ nodes → IsKept entries → IsLive nodes n → path_of nodes n ≡ [] → n ≡ 0
+only_root entries nodes n view kept live path =
+    let here = some_entry (entry_at entries n) (live_entry entries nodes n view live) in
+    let there = placed entries n here.0 kept here.1 in
+    let path_here : there.path ≡ [] = sym (ap path_in there.named) ∙ ap (λ ns. path_of ns n) view ∙ path in
+    let root_up : path_up (length entries) entries 0 ≡ Some [] = subst (λ k. path_up k entries 0 ≡ Some []) (sym kept.size) (root_path 1023 entries kept.root.0 kept.root.1) in
+    one_node (length entries) (length entries) entries n 0 [] kept (there.up ∙ ap (λ (q : List (List ℕ)). Some q) path_here) root_up

@@ -1,9 +1,8 @@
 -- The parts of a path, one at a time.
-use Rattle.std.proofs.Common.{◌≡◌, ℕ, suc, ◌+◌, ◌-◌, ◌*◌, ◌<◌, ◌≤◌, false, true, List, [], ◌∷◌, ◌++◌, length, take, drop, get_or, Option, Some, None, refl, sym, ap, ◌∙◌, arith, ltb, cond, ltb-true, ltb-false, length-drop, length-append, zero}
-use Rattle.std.proofs.Math.Seq.{take-length}
+use Rattle.std.proofs.Common.{◌≡◌, ℕ, suc, ◌+◌, ◌*◌, ◌<◌, ◌≤◌, false, true, List, [], ◌∷◌, ◌++◌, length, take, drop, get_or, Option, Some, None, refl, sym, ap, ◌∙◌, arith, ltb, cond, ltb-true, ltb-false, length-drop, length-append, zero}
 use Rattle.std.specs.Prelude.{position, not, filter}
 use Rattle.std.specs.List.{slice_split, position_or_len}
-use Rattle.std.proofs.lemmas.List.{drop-drop, append-nil, length-take-le, get_or-take}
+use Rattle.std.proofs.lemmas.List.{drop-drop, length-take-le, get_or-take}
 use Rattle.std.proofs.lemmas.List.Splits.{slice_split_none, slice_split_first}
 use Rattle.std.proofs.lemmas.List.Sums.{fails_before_first}
 use Rattle.access_rule.specs.Tree.{steps, is_slash, is_skipped}

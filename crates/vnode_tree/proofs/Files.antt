@@ -1,20 +1,20 @@
 -- What files hold, all together, and a write within the room.
-use Rattle.std.proofs.Common.{◌≡◌, ◌≢◌, ◌⊎◌, inl, inr, ℕ, zero, suc, ◌+◌, ◌-◌, ◌<◌, ◌≤◌, Bool, true, false, cond, List, [], ◌∷◌, ◌++◌, length, take, drop, replicate, set, get_or, max, Option, Some, None, option_map, refl, sym, ap, ap₂, ◌∙◌, arith, subst, length-append}
-use Rattle.std.specs.Prelude.{IsSome, sum_by, ◌==◌}
+use Rattle.std.proofs.Common.{◌≡◌, ◌≢◌, ℕ, suc, ◌+◌, ◌-◌, ◌<◌, ◌≤◌, true, List, [], ◌∷◌, ◌++◌, length, drop, replicate, set, get_or, max, Option, Some, None, option_map, refl, sym, ap, ◌∙◌, arith, subst, length-append}
+use Rattle.std.specs.Prelude.{IsSome, sum_by}
 use Rattle.std.proofs.lemmas.List.{length-take-le, length-drop, length-replicate}
 use Rattle.std.proofs.lemmas.List.Sums.{sum_by-set, sum_by-cons}
-use Rattle.std.proofs.lemmas.Bool.{cases_lt, ne_eqb}
+use Rattle.std.proofs.lemmas.Bool.{ne_eqb}
 use Rattle.access_rule.specs.Tree.{NodeRecord}
 use Rattle.vnode_tree.specs.declared.entry.Entry.{Entry}
-use Rattle.vnode_tree.specs.Nodes.{Named, IsLive, IsFile, is_file_record, named_at, record_of, with_record, with_contents, changed}
-use Rattle.vnode_tree.specs.Links.{entry_at, record_in, named_in, path_up, named_of, nodes_of, with_entry, entry_with_contents}
+use Rattle.vnode_tree.specs.Nodes.{Named, IsLive, IsFile, is_file_record, named_at, with_record, with_contents, changed}
+use Rattle.vnode_tree.specs.Links.{entry_at, record_in, named_of, nodes_of, with_entry, entry_with_contents}
 use Rattle.vnode_tree.specs.Kept.{IsKept, size_in}
 use Rattle.vnode_tree.specs.Contents.{filled, written, with_written, size_of, space_of}
 use Rattle.vnode_tree.proofs.Counts.{live_within}
-use Rattle.vnode_tree.proofs.Tables.{length-nodes, named_is, Placed, placed}
+use Rattle.vnode_tree.proofs.Tables.{length-nodes, named_is, placed}
 use Rattle.vnode_tree.proofs.Changes.{IsLike}
 use Rattle.vnode_tree.proofs.Looks.{live_entry}
-use Rattle.vnode_tree.proofs.Calls.{Recorded, recorded, some_entry, live_inside}
+use Rattle.vnode_tree.proofs.Calls.{Recorded, recorded, some_entry}
 use Rattle.vnode_tree.proofs.Writes.{nothing_written}
 
 live_of : (o : Option Named) → is_file_record (option_map (λ (x : Named). x.node) o) ≡ true → IsSome o

@@ -1,12 +1,11 @@
 -- What contracts see of an entry.
-use Rattle.std.proofs.Common.{◌≡◌, ◌≢◌, ℕ, ◌<◌, Bool, true, false, List, [], ◌∷◌, ◌++◌, length, set, get_or, Option, Some, None, option_map, refl, sym, ap, ◌∙◌, arith, subst}
-use Rattle.std.specs.Prelude.{IsSome, is_some}
-use Rattle.access_rule.specs.Tree.{NodeRecord, is_dir, is_dir_record}
+use Rattle.std.proofs.Common.{◌≡◌, ℕ, true, false, List, Option, Some, None, option_map, refl, sym, ap, ◌∙◌, subst}
+use Rattle.std.specs.Prelude.{IsSome}
 use Rattle.vnode_tree.specs.declared.entry.Entry.{Entry}
 use Rattle.vnode_tree.specs.Nodes.{Named, named_at, IsLive, record_of}
 use Rattle.vnode_tree.specs.Links.{entry_at, record_in, nodes_of}
 use Rattle.vnode_tree.specs.Kept.{IsKept}
-use Rattle.vnode_tree.proofs.Tables.{Placed, placed, Listed, listed}
+use Rattle.vnode_tree.proofs.Tables.{placed, listed}
 
 -- a node that is live has an entry
 pub live_entry : (entries : List (Option Entry)) (nodes : List (Option Named)) (n : ℕ) → nodes_of entries ≡ nodes → IsLive nodes n → IsSome (entry_at entries n)

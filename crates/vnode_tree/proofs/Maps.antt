@@ -1,9 +1,9 @@
 -- Tables that have, at each path, what a list of nodes has.
-use Rattle.std.proofs.Common.{◌≡◌, ◌≢◌, ℕ, zero, suc, ◌+◌, ◌<◌, ◌≤◌, Bool, true, false, cond, List, [], ◌∷◌, ◌++◌, length, map, set, get_or, Option, Some, None, refl, sym, ap, ◌∙◌, arith, subst, length-append, leb-true, ltb-true}
+use Rattle.std.proofs.Common.{◌≡◌, ℕ, ◌+◌, ◌<◌, ◌≤◌, Bool, true, false, cond, List, [], ◌∷◌, ◌++◌, length, map, Option, Some, None, refl, sym, ap, ◌∙◌, arith, subst, length-append, leb-true, ltb-true}
 use Rattle.std.proofs.Math.Path.{fun_ext}
-use Rattle.std.specs.Prelude.{IsSome, IsTrue, is_some, is_none, sum_by, nat_le, nat_lt, ◌&&◌}
+use Rattle.std.specs.Prelude.{IsSome, IsTrue, is_none, nat_le, nat_lt, ◌&&◌}
 use Rattle.std.proofs.lemmas.List.Sums.{sum_by-cons}
-use Rattle.access_rule.specs.Tree.{NodeRecord, Tree, is_dir, is_dir_record}
+use Rattle.access_rule.specs.Tree.{Tree, is_dir, is_dir_record}
 use Rattle.vnode_tree.specs.Nodes.{Named, named_at, path_of, record_of, same_path, tree_of, count_of, is_name, ChangesAt}
 use Rattle.vnode_tree.specs.Contents.{size_of, space_of}
 use Rattle.vnode_tree.specs.Standard.{IsMapOf, Keeps, can_add, root_node}

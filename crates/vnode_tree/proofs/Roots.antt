@@ -1,22 +1,21 @@
 -- A tree of a root alone.
-use Rattle.std.proofs.Common.{◌≡◌, ◌≢◌, ◌⊎◌, inl, inr, ℕ, zero, suc, ◌+◌, ◌<◌, ◌≤◌, Bool, true, false, cond, List, [], ◌∷◌, ◌++◌, length, map, set, get_or, Option, Some, None, refl, sym, ap, ◌∙◌, arith, subst}
+use Rattle.std.proofs.Common.{◌≡◌, ◌≢◌, inl, inr, ℕ, zero, suc, ◌+◌, true, false, cond, List, [], ◌∷◌, ◌++◌, length, set, get_or, Option, Some, None, refl, sym, ap, ◌∙◌, arith, subst}
 use Rattle.std.proofs.Math.Path.{fun_ext}
-use Rattle.std.specs.Prelude.{IsSome, is_some, sum_by, count_by}
+use Rattle.std.specs.Prelude.{IsSome, is_some, sum_by}
 use Rattle.std.proofs.lemmas.List.{get_or-set_same, get_or-set_other}
 use Rattle.std.proofs.lemmas.List.Sums.{sum_by-cons}
 use Rattle.std.proofs.lemmas.Bool.{cases_eq}
-use Rattle.access_rule.specs.Tree.{NodeRecord, is_dir}
+use Rattle.access_rule.specs.Tree.{is_dir}
 use Rattle.call_words.specs.declared.node.Kind.TheVariants as kind
 use Rattle.vnode_tree.specs.declared.entry.Entry.{Entry}
-use Rattle.vnode_tree.specs.Nodes.{Named, named_at, same_path, tree_of, count_of}
+use Rattle.vnode_tree.specs.Nodes.{Named, named_at, same_path, tree_of}
 use Rattle.vnode_tree.specs.Links.{entry_at, path_up, record_in, nodes_of}
 use Rattle.vnode_tree.specs.Kept.{IsKept, size_in}
-use Rattle.vnode_tree.specs.Contents.{space_of}
 use Rattle.vnode_tree.specs.Standard.{IsMapOf}
 use Rattle.vnode_tree.proofs.Paths.{root_path}
 use Rattle.vnode_tree.proofs.Counts.{live_within, count_without}
-use Rattle.vnode_tree.proofs.Trees.{ArePathsApart, path_true, path_refl, at_its_path, none_there}
-use Rattle.vnode_tree.proofs.Tables.{named_is, Placed, placed, Listed, listed, paths_apart}
+use Rattle.vnode_tree.proofs.Trees.{path_true, at_its_path, none_there}
+use Rattle.vnode_tree.proofs.Tables.{placed, listed, paths_apart}
 use Rattle.vnode_tree.proofs.Files.{space_is}
 
 -- a table with a root and nothing else
@@ -65,10 +64,13 @@ root_kept entries root size t is = record {
   ];
   apart = λ n m e f at there dir name. (only_root entries root n e t at).0 ∙ sym (only_root entries root m f t there).0;
   kinds = λ n e at. let one = (only_root entries root n e t at).1 in subst (λ (x : Entry). x.attrs.is_dir ≡ is_dir x.kind) one (is.is_dir ∙ sym (ap is_dir is.kind));
-  space = omega (arith, sum_zero size_in entries (λ k. elim (cases_eq k 0) [
-    | inl here ↦ ap (λ i. size_in (entry_at entries i)) here ∙ ap size_in t.first ∙ ap (λ (xs : List ℕ). length xs) is.empty
-    | inr other ↦ ap size_in (t.others k other)
-  ]));
+  space = omega (
+    arith,
+    sum_zero size_in entries (λ k. elim (cases_eq k 0) [
+      | inl here ↦ ap (λ i. size_in (entry_at entries i)) here ∙ ap size_in t.first ∙ ap (λ (xs : List ℕ). length xs) is.empty
+      | inr other ↦ ap size_in (t.others k other)
+    ]),
+  );
 }
 
 -- the node of the root

@@ -1,19 +1,18 @@
 -- The standard nodes, one after another.
-use Rattle.std.proofs.Common.{◌≡◌, ◌≢◌, ℕ, zero, suc, ◌+◌, ◌*◌, ◌<◌, ◌≤◌, Bool, true, false, cond, List, [], ◌∷◌, ◌++◌, length, map, take, get_or, Option, Some, None, refl, sym, ap, ◌∙◌, arith, subst, leb-true, le-leb, append_assoc, length-append}
+use Rattle.std.proofs.Common.{◌≡◌, ℕ, zero, suc, ◌+◌, ◌<◌, ◌≤◌, Bool, true, false, List, [], ◌∷◌, ◌++◌, map, take, get_or, Option, Some, refl, sym, ap, ◌∙◌, arith, leb-true, le-leb, append_assoc}
 use Rattle.std.proofs.lemmas.Bool.{cases_eq}
 use Rattle.std.proofs.Common.{inl, inr}
-use Rattle.std.specs.Prelude.{IsTrue, ◌&&◌, nat_le, nat_lt, is_none, codes, flat_map}
+use Rattle.std.specs.Prelude.{IsTrue, ◌&&◌, nat_le, codes, flat_map}
 use Rattle.std.specs.List.{range_with_len}
 use Rattle.std.proofs.lemmas.List.{take_more, map-append, append-nil, map-id}
 use Rattle.std.proofs.lemmas.List.Concat.{flat_map-append}
 use Rattle.std.proofs.lemmas.List.FromFn.{map-range_with_len_more}
-use Rattle.access_rule.specs.Tree.{is_dir}
 use Rattle.call_words.specs.declared.image.Image.TheVariants as image
 use Rattle.call_words.specs.declared.image.Image.{Image}
 use Rattle.call_words.specs.Images.{images, image_name}
-use Rattle.vnode_tree.specs.Nodes.{Named, named_at, tree_of, is_name}
+use Rattle.vnode_tree.specs.Nodes.{Named, named_at, tree_of}
 use Rattle.vnode_tree.specs.Contents.{space_of}
-use Rattle.vnode_tree.specs.Standard.{IsMapOf, can_add, standard_dirs, image_node, image_text, bin_node, dev_node, etc_node, line_name, line_node, with_images, with_lines, list_nodes, tty_text}
+use Rattle.vnode_tree.specs.Standard.{IsMapOf, can_add, standard_dirs, image_node, bin_node, dev_node, etc_node, line_name, line_node, with_images, with_lines, list_nodes, tty_text}
 use Rattle.vnode_tree.proofs.Maps.{all_some, can_join, can_add_is, both_true}
 
 both : (a b : Bool) → a ≡ true → b ≡ true → (a && b) ≡ true

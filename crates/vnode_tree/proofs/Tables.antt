@@ -1,17 +1,15 @@
 -- Nodes with their paths, through a change of one place of the table.
-use Rattle.std.proofs.Common.{◌≡◌, ◌≢◌, ◌⊎◌, inl, inr, ℕ, zero, suc, ◌+◌, ◌<◌, ◌≤◌, Bool, true, false, List, [], ◌∷◌, ◌++◌, length, set, get_or, map, Option, Some, None, option_map, refl, sym, ap, ◌∙◌, arith, subst, length-append}
-use Rattle.std.specs.Prelude.{IsSome, sum_by}
+use Rattle.std.proofs.Common.{◌≡◌, ◌≢◌, ◌⊎◌, inl, inr, ℕ, zero, suc, ◌<◌, ◌≤◌, true, false, List, [], ◌∷◌, ◌++◌, length, set, get_or, map, Option, Some, None, refl, sym, ap, ◌∙◌, arith, subst, length-append}
+use Rattle.std.specs.Prelude.{IsSome}
 use Rattle.std.specs.List.{range_with_len}
 use Rattle.std.proofs.lemmas.List.{get_or-set_same, get_or-set_other, ext_get_or, get_or_past, length-set}
 use Rattle.std.proofs.lemmas.List.FromFn.{get_or-map-range_with_len, length-map-range_with_len}
 use Rattle.std.proofs.lemmas.Bool.{cases_eq, cases_lt}
-use Rattle.access_rule.specs.Tree.{NodeRecord, is_dir}
 use Rattle.vnode_tree.specs.declared.entry.Entry.{Entry}
 use Rattle.vnode_tree.specs.Nodes.{Named, named_at}
 use Rattle.vnode_tree.specs.Links.{entry_at, path_up, record_in, named_in, named_of, nodes_of}
 use Rattle.vnode_tree.specs.Kept.{IsKept}
-use Rattle.vnode_tree.proofs.Paths.{AtRoot, Below, path_is, Has, kept_path, enough_fuel, exact_fuel, below_path}
-use Rattle.vnode_tree.proofs.Counts.{live_within, path_counts, count_with_free}
+use Rattle.vnode_tree.proofs.Paths.{path_is, Has, kept_path}
 use Rattle.vnode_tree.proofs.Trees.{ArePathsApart}
 
 -- there are as many places
@@ -111,10 +109,10 @@ paths_apart entries kept = record {
 pub nodes_after : (entries others : List (Option Entry)) (n : ℕ) (x : Option Named) → length others ≡ length entries → n < length entries → named_of others n ≡ x → ((m : ℕ) → m ≢ n → named_of others m ≡ named_of entries m) → nodes_of others ≡ set (nodes_of entries) n x
 nodes_after entries others n x size below here same =
     ext_get_or None (nodes_of others) (set (nodes_of entries) n x) (length-nodes others ∙ size ∙ sym (length-set (nodes_of entries) n x ∙ length-nodes entries)) (λ m inside.
-        elim (cases_eq m n) [
-          | inl is ↦ ap (named_at (nodes_of others)) is ∙ named_is others n ∙ here ∙ sym (ap (λ i. get_or (set (nodes_of entries) n x) i None) is ∙ get_or-set_same (nodes_of entries) n x None (omega (arith, length-nodes entries)))
-          | inr other ↦ named_is others m ∙ same m other ∙ sym (named_is entries m) ∙ sym (get_or-set_other (nodes_of entries) n m x None other)
-        ])
+    elim (cases_eq m n) [
+      | inl is ↦ ap (named_at (nodes_of others)) is ∙ named_is others n ∙ here ∙ sym (ap (λ i. get_or (set (nodes_of entries) n x) i None) is ∙ get_or-set_same (nodes_of entries) n x None (omega (arith, length-nodes entries)))
+      | inr other ↦ named_is others m ∙ same m other ∙ sym (named_is entries m) ∙ sym (get_or-set_other (nodes_of entries) n m x None other)
+    ])
 
 -- a place that has not changed keeps its node
 pub named_stays : (P : ℕ → Type 0) (entries others : List (Option Entry)) (m : ℕ) → IsKept entries → length others ≡ length entries → Has P entries others → ((entry : Entry) → entry_at entries m ≡ Some entry → P m) → entry_at others m ≡ entry_at entries m → named_of others m ≡ named_of entries m

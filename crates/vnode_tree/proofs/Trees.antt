@@ -1,9 +1,8 @@
 -- What is at a path, and how it changes.
-use Rattle.std.proofs.Common.{◌≡◌, ◌≢◌, ℕ, zero, suc, ◌<◌, Bool, true, false, cond, ◌&&◌, List, [], ◌∷◌, length, set, get_or, Option, Some, None, option_map, refl, sym, ap, ◌∙◌, arith, subst}
-use Rattle.std.specs.Prelude.{Decides}
+use Rattle.std.proofs.Common.{◌≡◌, ◌≢◌, ℕ, zero, suc, ◌<◌, Bool, true, false, cond, ◌&&◌, List, [], ◌∷◌, length, set, Option, Some, None, option_map, refl, sym, ap, ◌∙◌, arith, subst}
 use Rattle.std.specs.Str.{bytes_eq}
 use Rattle.std.proofs.lemmas.Slice.Eq.{bytes_eq-Decides}
-use Rattle.access_rule.specs.Tree.{NodeRecord, Tree}
+use Rattle.access_rule.specs.Tree.{NodeRecord}
 use Rattle.vnode_tree.specs.Nodes.{Named, named_at, same_path, tree_of, ChangesAt}
 
 both_true : (a b : Bool) → (a && b) ≡ true → (a ≡ true) × (b ≡ true)
@@ -137,9 +136,9 @@ put_at (None ∷ nodes) (suc n) path other value below owns = put_at nodes n pat
 put_at (Some a ∷ nodes) (suc n) path other value below owns =
     ap (cond (same_path other a.path) (Some a.node)) (put_at nodes n path other value (omega arith) (tail_owns (Some a) nodes n path owns))
     ∙ swapped (same_path other a.path) (same_path other path) (Some a.node) value (tree_of nodes other) (λ s t.
-      let is : a.path ≡ path = sym (path_true other a.path s) ∙ path_true other path t in
-      let same : 0 ≡ suc n = owns.others 0 a refl is in
-      omega arith)
+    let is : a.path ≡ path = sym (path_true other a.path s) ∙ path_true other path t in
+    let same : 0 ≡ suc n = owns.others 0 a refl is in
+    omega arith)
 
 -- a change of a place changes what is at its path alone
 pub changes_at : (nodes : List (Option Named)) (n : ℕ) (path : List (List ℕ)) (value : Option NodeRecord) → n < length nodes → Owns nodes n path → ChangesAt path value nodes (set nodes n (slot path value))

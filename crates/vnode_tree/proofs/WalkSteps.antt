@@ -1,7 +1,7 @@
 -- One step of a walk.
-use Rattle.std.proofs.Common.{◌≡◌, ◌≢◌, ℕ, ◌+◌, ◌<◌, ◌≤◌, Bool, true, false, List, [], ◌∷◌, ◌++◌, length, refl, sym, ap, ◌∙◌, arith, ltb, lt-ltb, le-ltb}
+use Rattle.std.proofs.Common.{◌≡◌, ℕ, ◌<◌, ◌≤◌, true, false, List, [], ◌∷◌, ◌++◌, length, refl, lt-ltb, le-ltb}
 use Rattle.std.specs.Prelude.{is_some, ◌==◌}
-use Rattle.access_rule.specs.Tree.{Tree, Walked, walk, walk_from, begin_at, steps, missing, path_long, ended, passing, found, name_long, not_dir, absent_end, parent_of, is_parent, is_dir_record}
+use Rattle.access_rule.specs.Tree.{Tree, walk, walk_from, begin_at, steps, missing, path_long, ended, passing, found, name_long, not_dir, absent_end, parent_of, is_parent, is_dir_record}
 
 pub walk_done : (tree : Tree) (here : List (List ℕ)) → walk_from tree here [] ≡ ended (found here)
 unfolding walk_from

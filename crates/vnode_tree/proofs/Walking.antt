@@ -1,12 +1,12 @@
 -- A walk on its way.
-use Rattle.std.proofs.Common.{◌≡◌, ◌≢◌, ◌⊎◌, ℕ, suc, ◌+◌, ◌<◌, ◌≤◌, Bool, true, false, List, [], ◌∷◌, ◌++◌, length, map, Option, Some, None, refl, sym, ap, ap₂, ◌∙◌, arith, subst, length-append}
-use Rattle.std.specs.Prelude.{All, IsSome, is_some}
+use Rattle.std.proofs.Common.{◌≡◌, ℕ, ◌+◌, ◌<◌, ◌≤◌, true, false, List, [], ◌∷◌, ◌++◌, length, map, Option, None, refl, sym, ap, ap₂, ◌∙◌, arith, subst, length-append}
+use Rattle.std.specs.Prelude.{All, is_some}
 use Rattle.std.proofs.lemmas.List.{append-nil}
 use Rattle.std.proofs.lemmas.List.Elements.{All-push}
-use Rattle.access_rule.specs.Tree.{Tree, Walked, WalkEnd, walk_from, ended, passing, found, name_long, not_dir, absent_end, parent_of, is_parent, is_dir_record}
+use Rattle.access_rule.specs.Tree.{Walked, WalkEnd, walk_from, ended, passing, absent_end, parent_of, is_parent, is_dir_record}
 use Rattle.vnode_tree.specs.Nodes.{Named, IsLive, IsAt, path_of, tree_of}
 use Rattle.vnode_tree.specs.Walks.{Passes}
-use Rattle.vnode_tree.proofs.WalkSteps.{walk_done, walk_long, walk_not_dir, walk_up, walk_down, walk_absent}
+use Rattle.vnode_tree.proofs.WalkSteps.{walk_up, walk_down, walk_absent}
 
 -- A walk that began with some directories passed is at a node: what it has passed and still passes is what it passes in all.
 pub record Walking (nodes : List (Option Named)) (whole : Walked) (before : List ℕ) (here : ℕ) (steps : List (List ℕ)) (passed : List ℕ) : Type 0 where

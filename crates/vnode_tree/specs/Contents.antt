@@ -1,6 +1,6 @@
 -- What files hold, after read(2) and write(2).
 use Rattle.std.specs.Prelude.{ℕ, ◌+◌, ◌-◌, ◌==◌, List, ◌++◌, length, take, drop, replicate, Option, Some, None, sum_by, if◌then◌else◌}
-use Rattle.vnode_tree.specs.Nodes.{Named, with_record, with_contents}
+use Rattle.vnode_tree.specs.Nodes.{Named, with_contents}
 use Rattle.access_rule.specs.Tree.{NodeRecord}
 
 -- at most so many bytes from a place on

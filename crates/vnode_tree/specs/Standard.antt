@@ -29,14 +29,19 @@ super_node path kind mode element contents = record { path = path; node = new_no
 -- the modes 755, 777, 700, 600, 644 and 666 in octal
 abbrev pub mode_755 : ℕ
 mode_755 = 493
+
 abbrev pub mode_777 : ℕ
 mode_777 = 511
+
 abbrev pub mode_700 : ℕ
 mode_700 = 448
+
 abbrev pub mode_600 : ℕ
 mode_600 = 384
+
 abbrev pub mode_644 : ℕ
 mode_644 = 420
+
 abbrev pub mode_666 : ℕ
 mode_666 = 438
 

@@ -1,5 +1,5 @@
 -- Walks as contracts see them: with the paths of the nodes that they pass.
-use Rattle.std.specs.Prelude.{◌≡◌, ℕ, Bool, true, not, ◌&&◌, suc, ◌+◌, List, [], ◌∷◌, ◌++◌, if◌then◌else◌, map, length, Option, Some, None, All}
+use Rattle.std.specs.Prelude.{◌≡◌, ℕ, Bool, true, not, ◌&&◌, suc, ◌+◌, List, [], ◌∷◌, ◌++◌, if◌then◌else◌, map, length, Option, Some, None}
 use Rattle.access_rule.specs.Tree.{WalkEnd, Walked, is_skipped, is_slash, is_dir_record, steps}
 use Rattle.std.specs.List.{list_all}
 use Rattle.access_rule.specs.Tree as tree

@@ -1,8 +1,8 @@
 //! What the table has of a node.
 use crate::NAME_BYTES;
+use crate::contents::Contents;
 use access_rule::Attrs;
 use acl_core::Acl;
-use crate::contents::Contents;
 use call_words::{InPlace, Kind};
 
 /// The name of a node in its directory: at most 255 bytes.

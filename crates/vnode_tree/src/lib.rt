@@ -32,3 +32,5 @@ pub const NAME_BYTES: usize = 255;
 
 #[cfg(test)]
 mod names_tests;
+#[cfg(test)]
+mod tests;

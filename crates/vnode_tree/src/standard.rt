@@ -125,14 +125,7 @@ impl Tree {
 
     /// Adds a node that there is room for.
     #[tactic(auto, using(crate::proofs::Maps::can_add_dir, crate::proofs::Maps::can_add_absent, crate::proofs::Maps::can_add_named, crate::proofs::Maps::can_add_short, crate::proofs::Maps::can_add_few, crate::proofs::Maps::can_add_room))]
-    fn add(
-        &mut self,
-        dir: Node,
-        name: &[u8],
-        kind: Kind,
-        attrs: Attrs,
-        contents: Contents,
-    ) -> Node
+    fn add(&mut self, dir: Node, name: &[u8], kind: Kind, attrs: Attrs, contents: Contents) -> Node
         requires room { IsTrue (can_add self.old dir name.now (length contents)) }
         requires kind { attrs.is_dir ≡ is_dir kind }
         ensures at { named_at self.new result ≡ Some (record { path = path_of self.old dir ++ name.now ∷ []; node = new_node kind attrs None contents }) }
@@ -177,7 +170,14 @@ impl Tree {
         ensures grows { (nodes : List Named) → IsMapOf self.old nodes → IsMapOf self.new (nodes ++ super_node (name.now ∷ []) kind.Dir mode element [] ∷ []) }
         ensures keeps { Keeps self.old self.new }
     {
-        self.add_super(Node::ROOT, name, Kind::Dir, mode, element, Contents::empty(alloc))
+        self.add_super(
+            Node::ROOT,
+            name,
+            Kind::Dir,
+            mode,
+            element,
+            Contents::empty(alloc),
+        )
     }
 
     /// Adds the directories to a root alone.

@@ -89,6 +89,16 @@ pub(crate) fn set_default(entries: &mut [Option<Entry>], node: Node, list: Optio
     }
 }
 
+/// Takes a node away, where it is there.
+pub(crate) fn take_away(entries: &mut [Option<Entry>], node: Node)
+    ensures { entries.new ≡ slice_set entries.old node None }
+{
+    let place = usize::from(node.number());
+    if place < entries.len() {
+        entries[place] = None;
+    }
+}
+
 /// How many bytes a node holds.
 fn size(entry: &Option<Entry>) -> usize
     ensures { result ≡ size_in entry.now }

@@ -6,7 +6,7 @@ ghost use Rattle.vnode_tree.specs.Contents.{bytes_at, with_written, space_of};
 ghost use Rattle.vnode_tree.specs.Standard.{Keeps};
 ghost use Rattle.vnode_tree.specs.declared.TheConstants.{NODES, FILE_SPACE};
 ghost use Rattle.vnode_tree.specs.declared.tree.WriteFault.TheVariants.{Space};
-ghost use Rattle.vnode_tree.specs.Nodes.{IsLive, IsFile, IsAt, IsLeaf, HasChild, named_at, path_of, record_of, tree_of, with_node, with_record, with_attrs, with_default, with_contents, new_node, is_name, count_of, ChangesAt};
+ghost use Rattle.vnode_tree.specs.Nodes.{IsLive, IsFile, is_file_record, IsAt, IsLeaf, HasChild, named_at, path_of, record_of, tree_of, with_node, with_record, with_attrs, with_default, with_contents, new_node, is_name, count_of, ChangesAt};
 
 use crate::FILE_SPACE;
 use crate::contents::Contents;
@@ -61,9 +61,31 @@ impl Tree {
         Node::ROOT
     }
 
+    /// Whether a node is the root. The node is live.
+    pub fn is_root(&self, node: Node) -> bool
+        requires { IsLive self.now node }
+        ensures root { OnTrue result (path_of self.now node ≡ []) }
+        ensures below { OnFalse result (path_of self.now node ≢ []) }
+    {
+        let _ = &self.entries;
+        if node.number() == 0 {
+            return true;
+        }
+        false
+    }
+
+    /// Whether a node is a regular file. The node is live.
+    #[tactic(auto, using(crate::proofs::Looks::live_entry, crate::proofs::Looks::record_is))]
+    pub fn is_file(&self, node: Node) -> bool
+        requires { IsLive self.now node }
+        ensures { result ≡ is_file_record (record_of self.now node) }
+    {
+        matches!(entry_of(self.entries.as_slice(), node).kind, Kind::File)
+    }
+
     /// Whether a node is a directory. The node is live.
     #[tactic(auto, using(crate::proofs::Looks::live_entry, crate::proofs::Looks::record_is, crate::proofs::Children::what_is_there))]
-    pub(crate) fn is_dir(&self, node: Node) -> bool
+    pub fn is_dir(&self, node: Node) -> bool
         requires { IsLive self.now node }
         ensures there { result ≡ is_dir_record (tree_of self.now (path_of self.now node)) }
         ensures itself { result ≡ is_dir_record (record_of self.now node) }
@@ -212,7 +234,7 @@ impl Tree {
         ensures gone { self.new ≡ with_node self.old node None }
         ensures changes { ChangesAt (path_of self.old node) None self.old self.new }
     {
-        self.entries[usize::from(node.number())] = None;
+        table::take_away(self.entries.as_mut_slice(), node);
     }
 
     /// Changes what access to a node depends on. The node is live, and the attributes are a directory's exactly for a

@@ -1,6 +1,4 @@
-use Rattle.std.proofs.Common.{◌≡◌, ◌++◌, ◌≤◌, ◌*◌, ◌+◌, ℕ, Bool, List, false, length, get_or, sym, ap, ap₂, ◌∙◌, arith}
-use Rattle.std.specs.Prelude.{flat_map}
-use Rattle.std.specs.List.{range_with_len}
+use Rattle.std.proofs.Common.{◌≡◌, ◌++◌, ℕ, List, false, get_or, sym, ap, ◌∙◌, arith}
 use Rattle.vnode_tree.specs.Standard.{tty_text, tty_line}
 use Rattle.vnode_tree.proofs.Standards.{ttys_more}
 use Rattle.vnode_tree.proofs.standard.ttys_text.Goals as goal

@@ -1,4 +1,4 @@
-use Rattle.std.proofs.Common.{◌≡◌, ◌≤◌, take}
+use Rattle.std.proofs.Common.{◌≡◌, take}
 use Rattle.std.specs.Prelude.{sum_by}
 use Rattle.vnode_tree.specs.Kept.{size_in}
 use Rattle.vnode_tree.proofs.table.all_sizes.Given as goal

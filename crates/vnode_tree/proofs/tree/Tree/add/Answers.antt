@@ -1,4 +1,4 @@
-use Rattle.std.proofs.Common.{◌≡◌, ◌++◌, ◌∷◌, [], List, ℕ, Some, None, length, subst}
+use Rattle.std.proofs.Common.{◌++◌, ◌∷◌, [], List, ℕ, Some, None, length, subst}
 use Rattle.vnode_tree.specs.Nodes.{path_of, new_node, ChangesAt}
 use Rattle.vnode_tree.proofs.Maps.{map_grows, can_add_absent}
 use Rattle.vnode_tree.proofs.tree.Tree.add.Goals as goal

@@ -1,10 +1,10 @@
-use Rattle.std.proofs.Common.{◌≡◌, ◌∷◌, ◌++◌, [], List, ℕ, Some, refl, ap, ◌∙◌, subst}
+use Rattle.std.proofs.Common.{◌∷◌, [], refl}
 use Rattle.std.specs.Prelude.{codes}
 use Rattle.label_core.specs.declared.element.Element.TheVariants as element
 use Rattle.call_words.specs.declared.node.Kind.TheVariants as kind
-use Rattle.vnode_tree.specs.Nodes.{Named, tree_of}
-use Rattle.vnode_tree.specs.Standard.{IsMapOf, root_node, super_node, standard_dirs, mode_755, mode_777}
-use Rattle.vnode_tree.proofs.Maps.{Stage, next_stage, dir_fits, held}
+use Rattle.vnode_tree.specs.Nodes.{tree_of}
+use Rattle.vnode_tree.specs.Standard.{root_node, super_node, mode_755, mode_777}
+use Rattle.vnode_tree.proofs.Maps.{Stage, next_stage, dir_fits}
 use Rattle.vnode_tree.proofs.tree.Tree.add_dirs.Goals as goal
 
 pub add_dir-bin-requires-clause-room : goal.add_dir-bin-requires-clause-room

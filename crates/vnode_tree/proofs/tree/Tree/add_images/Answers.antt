@@ -1,11 +1,11 @@
-use Rattle.std.proofs.Common.{◌≡◌, ◌∷◌, ◌++◌, ◌≤◌, ◌<◌, ◌+◌, ℕ, List, [], Some, length, map, take, get_or, refl, sym, ap, ap₂, ◌∙◌, arith, subst, length-append}
+use Rattle.std.proofs.Common.{◌≡◌, ◌∷◌, ◌++◌, ◌≤◌, ◌+◌, ℕ, List, [], length, map, take, get_or, ap, ap₂, ◌∙◌, arith, subst, length-append}
 use Rattle.std.specs.Prelude.{codes}
 use Rattle.label_core.specs.declared.element.Element.TheVariants as element
 use Rattle.call_words.specs.declared.node.Kind.TheVariants as kind
 use Rattle.call_words.specs.declared.image.Image.{Image}
 use Rattle.call_words.specs.declared.image.Image.TheVariants as image
 use Rattle.call_words.specs.Images.{images, image_name}
-use Rattle.vnode_tree.specs.Nodes.{Named, named_at}
+use Rattle.vnode_tree.specs.Nodes.{Named}
 use Rattle.vnode_tree.specs.Standard.{IsMapOf, standard_dirs, image_node, image_text, bin_node, super_node, mode_755}
 use Rattle.vnode_tree.proofs.Maps.{held, keeps_on}
 use Rattle.vnode_tree.proofs.Standards.{adds, image_at, image_fits, images_more}

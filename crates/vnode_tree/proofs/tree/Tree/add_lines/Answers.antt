@@ -1,10 +1,10 @@
-use Rattle.std.proofs.Common.{◌≡◌, ◌∷◌, ◌++◌, ◌≤◌, ◌<◌, ◌+◌, ℕ, List, [], Some, length, map, sym, ap, ap₂, ◌∙◌, arith, subst}
+use Rattle.std.proofs.Common.{◌≡◌, ◌∷◌, ◌++◌, ◌≤◌, ◌+◌, ℕ, List, [], length, map, ap, ap₂, ◌∙◌, arith, subst}
 use Rattle.std.specs.Prelude.{codes}
 use Rattle.std.specs.List.{range_with_len}
 use Rattle.label_core.specs.declared.element.Element.TheVariants as element
 use Rattle.call_words.specs.declared.node.Kind.TheVariants as kind
-use Rattle.vnode_tree.specs.Nodes.{Named, named_at}
-use Rattle.vnode_tree.specs.Standard.{IsMapOf, with_images, with_lines, line_node, line_name, tty_node, dev_node, super_node, mode_600, mode_666}
+use Rattle.vnode_tree.specs.Nodes.{Named}
+use Rattle.vnode_tree.specs.Standard.{IsMapOf, with_images, line_node, line_name, dev_node, super_node, mode_600, mode_666}
 use Rattle.vnode_tree.proofs.Maps.{held, keeps_on}
 use Rattle.vnode_tree.proofs.Standards.{adds, line_fits, lines_more, tty_fits}
 use Rattle.vnode_tree.proofs.tree.Tree.add_lines.Goals as goal

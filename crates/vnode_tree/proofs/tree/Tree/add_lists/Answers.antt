@@ -1,9 +1,9 @@
-use Rattle.std.proofs.Common.{◌≡◌, ◌∷◌, ◌++◌, ◌≤◌, ℕ, List, [], Some, length, get_or, sym, ap, ◌∙◌, arith, subst, append_assoc}
+use Rattle.std.proofs.Common.{◌∷◌, ◌++◌, ◌≤◌, ℕ, List, [], length, ap, arith, subst}
 use Rattle.std.specs.Prelude.{codes}
 use Rattle.label_core.specs.declared.element.Element.TheVariants as element
 use Rattle.call_words.specs.declared.node.Kind.TheVariants as kind
-use Rattle.vnode_tree.specs.Nodes.{Named, named_at}
-use Rattle.vnode_tree.specs.Standard.{IsMapOf, with_lines, list_nodes, etc_node, super_node, ttys_text, mode_600, mode_644}
+use Rattle.vnode_tree.specs.Nodes.{Named}
+use Rattle.vnode_tree.specs.Standard.{IsMapOf, with_lines, etc_node, super_node, mode_600, mode_644}
 use Rattle.vnode_tree.proofs.Maps.{held}
 use Rattle.vnode_tree.proofs.Standards.{adds, users_fits, ttys_fits}
 use Rattle.vnode_tree.proofs.tree.Tree.add_lists.Goals as goal

@@ -1,6 +1,5 @@
 use Rattle.std.proofs.Common.{◌≡◌, ◌++◌, [], List, map, sym, ap, ◌∙◌, subst}
 use Rattle.std.proofs.lemmas.List.{append-nil}
-use Rattle.user_db.specs.declared.user.User.{User}
 use Rattle.user_db.proofs.NoUsers.{no_users}
 use Rattle.vnode_tree.specs.Nodes.{Named}
 use Rattle.vnode_tree.specs.Standard.{IsMapOf, standard, with_lines, list_nodes, home_node}

@@ -1,6 +1,6 @@
-use Rattle.std.proofs.Common.{◌≡◌, ◌∷◌, ◌++◌, ◌<◌, ◌≤◌, [], List, ℕ, length, map, sym, ◌∙◌, ap, ap₂, subst, true, false}
+use Rattle.std.proofs.Common.{◌≡◌, ◌<◌, ◌≤◌, [], List, ℕ, length, map, sym, ◌∙◌, ap, ap₂, subst, true, false}
 use Rattle.std.specs.Prelude.{◌==◌}
-use Rattle.access_rule.specs.Tree.{Walked, walk, walk_from, begin_at, steps, ended, path_long, missing}
+use Rattle.access_rule.specs.Tree.{walk_from, begin_at, steps}
 use Rattle.vnode_tree.specs.Nodes.{path_of, tree_of}
 use Rattle.vnode_tree.specs.Walks.{seen_end, Passes}
 use Rattle.vnode_tree.proofs.WalkSteps.{walk_too_long, walk_nothing, walk_whole}

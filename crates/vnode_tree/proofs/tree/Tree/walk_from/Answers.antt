@@ -1,6 +1,6 @@
-use Rattle.std.proofs.Common.{◌≡◌, ◌∷◌, ◌++◌, [], List, ℕ, length, map, sym, ◌∙◌, ap, subst, arith}
-use Rattle.access_rule.specs.Tree.{walk_from, ended, name_long, not_dir, found}
-use Rattle.vnode_tree.specs.Nodes.{IsLive, path_of, tree_of}
+use Rattle.std.proofs.Common.{◌∷◌, [], List, ℕ, sym, ◌∙◌, subst}
+use Rattle.access_rule.specs.Tree.{walk_from, name_long, not_dir, found}
+use Rattle.vnode_tree.specs.Nodes.{path_of, tree_of}
 use Rattle.vnode_tree.proofs.WalkSteps.{walk_long, walk_not_dir, walk_done}
 use Rattle.vnode_tree.proofs.Walking.{Walking, walk_ends, walk_takes, goes_up, goes_down, lacks}
 use Rattle.vnode_tree.proofs.tree.Tree.walk_from.Goals as goal

@@ -1,7 +1,6 @@
-use Rattle.std.proofs.Common.{◌≡◌, ◌+◌, ◌≤◌, ◌++◌, List, length, map}
-use Rattle.std.specs.Prelude.{All}
+use Rattle.std.proofs.Common.{length}
 use Rattle.access_rule.specs.Tree.{walk_from}
-use Rattle.vnode_tree.specs.Nodes.{IsLive, path_of, tree_of}
+use Rattle.vnode_tree.specs.Nodes.{path_of, tree_of}
 use Rattle.vnode_tree.proofs.Walking.{Walking}
 use Rattle.vnode_tree.proofs.tree.Tree.walk_from.Given as goal
 

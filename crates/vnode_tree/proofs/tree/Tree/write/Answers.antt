@@ -1,11 +1,10 @@
-use Rattle.std.proofs.Common.{◌≡◌, ◌<◌, ◌≤◌, ℕ, length, sym, ap, ◌∙◌, arith, refl, subst}
-use Rattle.std.specs.Prelude.{IsSome}
+use Rattle.std.proofs.Common.{◌<◌, ◌≤◌, arith, refl}
 use Rattle.vnode_tree.specs.Contents.{written, with_written, space_of}
 use Rattle.vnode_tree.specs.Nodes.{with_record}
-use Rattle.vnode_tree.specs.Links.{entry_at, entry_with_contents, with_entry}
+use Rattle.vnode_tree.specs.Links.{entry_with_contents, with_entry}
 use Rattle.vnode_tree.proofs.Looks.{live_entry}
 use Rattle.vnode_tree.proofs.Calls.{Recorded, entry_written}
-use Rattle.vnode_tree.proofs.Files.{file_live, file_written, Weighed, weighed}
+use Rattle.vnode_tree.proofs.Files.{file_live, file_written, weighed}
 use Rattle.vnode_tree.proofs.tree.Tree.write.Goals as goal
 
 pub entry_of-requires : goal.entry_of-requires
