@@ -4,6 +4,7 @@
 //! before the next byte is looked at, so a run needs the same memory for a text of any length.
 #![tactic(auto)]
 
+mod boot;
 mod built;
 mod choice;
 mod print;
