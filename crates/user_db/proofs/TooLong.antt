@@ -89,20 +89,20 @@ bad-next n draft front rest h more =
     let kept = end-kept front rest h in
     let head : lines front ≡ line ∷ lines (drop (p + 1) front) = lines_more front p (ap (λ b. cond b (Some p) None) (lt-ltb p (length front) h)) in
     let whole : lines (front ++ rest) ≡ line ∷ lines (drop (p + 1) front ++ rest) =
-        lines_more (front ++ rest) q (ap (λ b. cond b (Some q) None) (lt-ltb q (length (front ++ rest)) (omega (arith, length-append front rest))))
-        ∙ ap (λ k. take k (front ++ rest) ∷ lines (drop (k + 1) (front ++ rest))) kept
-        ∙ rw (take-append-le p front rest (omega arith), drop-append-le (p + 1) front rest (omega arith)) refl in
+    lines_more (front ++ rest) q (ap (λ b. cond b (Some q) None) (lt-ltb q (length (front ++ rest)) (omega (arith, length-append front rest))))
+    ∙ ap (λ k. take k (front ++ rest) ∷ lines (drop (k + 1) (front ++ rest))) kept
+    ∙ rw (take-append-le p front rest (omega arith), drop-append-le (p + 1) front rest (omega arith)) refl in
     elim (numbered n line draft) as (λ o. numbered n line draft ≡ o → BadAt n draft front rest) [
       | None ↦ λ e. record {
-          line = n;
-          of_front = ap (boot_from n draft) head ∙ ap (λ o. unless_bad n o (λ d. boot_from (n + 1) d (lines (drop (p + 1) front)))) e;
-          of_whole = ap (boot_from n draft) whole ∙ ap (λ o. unless_bad n o (λ d. boot_from (n + 1) d (lines (drop (p + 1) front ++ rest)))) e;
-        }
+        line = n;
+        of_front = ap (boot_from n draft) head ∙ ap (λ o. unless_bad n o (λ d. boot_from (n + 1) d (lines (drop (p + 1) front)))) e;
+        of_whole = ap (boot_from n draft) whole ∙ ap (λ o. unless_bad n o (λ d. boot_from (n + 1) d (lines (drop (p + 1) front ++ rest)))) e;
+      }
       | Some d ↦ λ e. let b = more d in record {
-          line = b.line;
-          of_front = ap (boot_from n draft) head ∙ ap (λ o. unless_bad n o (λ d. boot_from (n + 1) d (lines (drop (p + 1) front)))) e ∙ b.of_front;
-          of_whole = ap (boot_from n draft) whole ∙ ap (λ o. unless_bad n o (λ d. boot_from (n + 1) d (lines (drop (p + 1) front ++ rest)))) e ∙ b.of_whole;
-        }
+        line = b.line;
+        of_front = ap (boot_from n draft) head ∙ ap (λ o. unless_bad n o (λ d. boot_from (n + 1) d (lines (drop (p + 1) front)))) e ∙ b.of_front;
+        of_whole = ap (boot_from n draft) whole ∙ ap (λ o. unless_bad n o (λ d. boot_from (n + 1) d (lines (drop (p + 1) front ++ rest)))) e ∙ b.of_whole;
+      }
     ] refl
 
 bad-at : (left n : ℕ) (draft : Draft) (front rest : List ℕ) → n + left ≡ 257 → left * 4097 < length front → BadAt n draft front rest
@@ -117,8 +117,8 @@ bad-at (suc left) n draft front rest at long =
           bad-next n draft front rest (omega arith) (λ d. bad-at left (n + 1) d (drop (end_of front + 1) front) rest (omega arith) (omega (arith, length-drop (end_of front + 1) front)))
     ] refl
 
--- A text of more bytes than a boot text has at most is bad, and its first bad line is that of any
--- front of it with as many.
+-- A text of which a front has more bytes than a boot text has at most is bad, and its first bad line
+-- is that of the front.
 pub record BadByFront (front rest : List ℕ) : Type 0 where
   pub line : ℕ
   pub of_front : boot_of front ≡ Err line
