@@ -1,1 +1,2 @@
 mod LinesCome
+pub mod TooLong
