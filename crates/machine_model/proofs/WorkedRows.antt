@@ -9,11 +9,14 @@ use Rattle.script_text.specs.Paths.{unescaped, path_of}
 use Rattle.script_text.specs.Values.{flags_of}
 use Rattle.script_text.specs.Reading.{call_of, events_of_line}
 use Rattle.script_text.specs.Answers.{wake_text, answer_line}
-use Rattle.machine_model.specs.Reading.{built_events, lines}
-use Rattle.machine_model.specs.Script.{script_out, text_end, bad_boot_line}
+use Rattle.machine_model.specs.Reading.{built_events}
+use Rattle.machine_model.specs.Script.{script_out, text_end}
+use Rattle.user_db.specs.Lines.{lines}
+use Rattle.user_db.specs.Grammar.{boot_line_of}
+use Rattle.user_db.specs.Boot.{boot_of}
 
 empty_text : script_out [] [] ≡ record { bytes = []; status = 0 }
-unfolding lines text_end bad_boot_line
+unfolding lines text_end boot_of
 empty_text = refl
 
 first_run : script_out []
@@ -22,7 +25,7 @@ first_run : script_out []
       bytes = codes "0 ok 0\ntty7 noted\n0 bytes 68\n0 ok 2\ntty7 noted\n0 ok 0\n0 bytes -\n0 err EIO dead\ntty7 out -\n0 ok 0\n";
       status = 0;
     }
-unfolding digits hex_on_literals view_after answer_to wakes words number_below bytes_of_word unescaped path_of flags_of call_of events_of_line built_events lines hex_word wake_text answer_line text_end bad_boot_line
+unfolding digits hex_on_literals view_after answer_to wakes words number_below bytes_of_word unescaped path_of flags_of call_of events_of_line built_events lines hex_word wake_text answer_line text_end boot_of
 first_run = refl
 
 raw_line_refusals : script_out []
@@ -31,11 +34,16 @@ raw_line_refusals : script_out []
       bytes = codes "0 err EBADF bad-fd\n0 ok 0\n0 err EBADF fd-mode\n0 err EINVAL size\n0 err EAGAIN not-ready\n1 gone\nline 7\n";
       status = 2;
     }
-unfolding digits hex_on_literals view_after answer_to wakes words number_below bytes_of_word unescaped path_of flags_of call_of events_of_line built_events lines hex_word wake_text answer_line text_end bad_boot_line
+unfolding digits hex_on_literals view_after answer_to wakes words number_below bytes_of_word unescaped path_of flags_of call_of events_of_line built_events lines hex_word wake_text answer_line text_end boot_of
 raw_line_refusals = refl
 
-bad_boot : script_out (codes "recheck on\n") (codes "0 close 0\n") ≡ record { bytes = codes "boot line 1\n"; status = 2 }
-unfolding digits bad_boot_line
+recheck_on : script_out (codes "recheck on") (codes "0 open /dev/tty7 rw\nin tty7 68\n0 read 0 100\n")
+    ≡ record { bytes = codes "0 ok 0\ntty7 noted\n0 bytes 68\n"; status = 0 }
+unfolding digits hex_on_literals view_after answer_to wakes words number_below bytes_of_word unescaped path_of flags_of call_of events_of_line built_events lines hex_word wake_text answer_line text_end boot_line_of boot_of
+recheck_on = refl
+
+bad_boot : script_out (codes "recheck on\nrecheck on\n") (codes "0 close 0\n") ≡ record { bytes = codes "boot line 2\n"; status = 2 }
+unfolding digits lines boot_line_of boot_of
 bad_boot = refl
 
 open_flags : script_out []
@@ -44,5 +52,5 @@ open_flags : script_out []
       bytes = codes "0 err EINVAL flags\n0 err EINVAL flags\n0 err EEXIST exists\n0 ok 0\nline 5\n";
       status = 2;
     }
-unfolding digits hex_on_literals view_after answer_to wakes words number_below bytes_of_word unescaped path_of flags_of call_of events_of_line built_events lines hex_word wake_text answer_line text_end bad_boot_line
+unfolding digits hex_on_literals view_after answer_to wakes words number_below bytes_of_word unescaped path_of flags_of call_of events_of_line built_events lines hex_word wake_text answer_line text_end boot_of
 open_flags = refl

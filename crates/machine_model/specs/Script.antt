@@ -1,5 +1,5 @@
 -- What a script writes, and the status with which it ends.
-use Rattle.std.specs.Prelude.{ℕ, ◌+◌, List, [], ◌∷◌, ◌++◌, Option, Some, None, nat_lt, ◌==◌, if◌then◌else◌, length, take, codes}
+use Rattle.std.specs.Prelude.{ℕ, ◌+◌, List, [], ◌∷◌, ◌++◌, Option, Some, None, Result, Ok, Err, nat_lt, if◌then◌else◌, length, take, codes}
 use Rattle.std.specs.Fmt.{decimal}
 use Rattle.call_words.specs.declared.limits.TheConstants.{TRAIL_EVENTS}
 use Rattle.call_words.specs.declared.events.Event.{Event}
@@ -8,6 +8,8 @@ use Rattle.machine_model.specs.View.{view}
 use Rattle.machine_model.specs.Step.{step, wakes}
 use Rattle.machine_model.specs.Reading.{Asked, reads}
 use Rattle.script_text.specs.Answers.{answer_line}
+use Rattle.user_db.specs.declared.boot.Boot.{Boot}
+use Rattle.user_db.specs.Boot.{boot_of}
 
 -- the answer lines of events, of which the first is at position p
 abbrev pub answers_from : State → ℕ → List Event → List ℕ
@@ -43,17 +45,16 @@ run_out asked = record {
   status = (run_end TRAIL_EVENTS asked).status;
 }
 
--- the number of the first bad line of a boot text: no line is in its grammar yet
-unfoldable pub bad_boot_line : List ℕ → Option ℕ
-bad_boot_line text = if length text == 0 then None else Some 1
-
+-- the one line and the status of a boot text of which line n is the first bad one
 abbrev pub boot_end : ℕ → Output
 boot_end n = record { bytes = codes "boot line " ++ decimal n ++ codes "\n"; status = 2 }
 
-abbrev pub after_boot : Option ℕ → List ℕ → Output
-after_boot None text = run_out (reads text)
-after_boot (Some n) text = boot_end n
+-- A script runs only after a boot text without a bad line. What that text says changes no answer
+-- so far: it decides about checks of files alone, and no file can be asked for yet.
+abbrev pub after_boot : Result Boot ℕ → List ℕ → Output
+after_boot (Ok says) text = run_out (reads text)
+after_boot (Err n) text = boot_end n
 
 -- the boot text is read before the script
 abbrev pub script_out : List ℕ → List ℕ → Output
-script_out boot_text text = after_boot (bad_boot_line boot_text) text
+script_out boot_text text = after_boot (boot_of boot_text) text

@@ -4,3 +4,4 @@ pub mod OneEvent
 pub mod LinesCome
 pub mod Sourced
 pub mod Ran
+pub mod Booting

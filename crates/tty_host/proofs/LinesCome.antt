@@ -9,7 +9,8 @@ use Rattle.machine_model.specs.View.{View}
 use Rattle.machine_model.specs.Seen.{out_seen}
 use Rattle.machine_model.specs.Script.{Output, text_end}
 use Rattle.machine_model.proofs.SeenRuns.{out_seen-end}
-use Rattle.machine_model.specs.Reading.{is_newline, without_empty_last, lines, built_events, reads_from}
+use Rattle.user_db.specs.Lines.{is_newline, without_empty_last, lines}
+use Rattle.machine_model.specs.Reading.{built_events, reads_from}
 use Rattle.script_text.specs.Reading.{events_of_line}
 use Rattle.tty_host.specs.declared.run.Stop.{Stop}
 use Rattle.tty_host.specs.Told.{Goes, ended}

@@ -1,49 +1,70 @@
 -- From a run of what calls see to the promise of the top call.
-use Rattle.std.proofs.Common.{◌≡◌, ℕ, ◌⊎◌, inl, inr, List, [], ◌∷◌, length, Some, Option, refl, sym, ap, ◌∙◌, arith, le-ltb, ne_eqb}
+use Rattle.std.proofs.Common.{◌≡◌, ℕ, ◌⊎◌, inl, inr, List, [], length, Some, Option, Ok, Err, Result, refl, sym, ap, ◌∙◌, arith, le-ltb}
+use Rattle.std.specs.Prelude.{IsOk, IsErr}
 use Rattle.machine_model.specs.State.{boot}
 use Rattle.machine_model.specs.View.{view}
 use Rattle.machine_model.specs.Reading.{reads}
-use Rattle.machine_model.specs.Script.{Output, text_end, run_out, bad_boot_line, boot_end, after_boot, script_out}
+use Rattle.user_db.specs.declared.boot.Boot.{Boot}
+use Rattle.user_db.specs.Boot.{boot_of}
+use Rattle.machine_model.specs.Script.{Output, text_end, run_out, boot_end, after_boot, script_out}
 use Rattle.machine_model.proofs.SeenRuns.{run_out-seen}
 use Rattle.machine_model.proofs.Lawful.{obeys}
 use Rattle.tty_host.specs.declared.run.Run.{Run}
 use Rattle.tty_host.specs.declared.status.Status.{Status}
 use Rattle.tty_host.specs.declared.status.Status.TheVariants.{Done, Usage, Input, ReadFault, WriteFault, Memory, Full, NoWorker}
-use Rattle.tty_host.specs.Uses.{SourceUse, SinkUse, SourceFailed, SinkFailed}
+use Rattle.tty_host.specs.Uses.{SourceUse, SinkUse, SourceFailed, SinkFailed, Unread, Unwritten}
 use Rattle.tty_host.specs.Come.{to_come}
-use Rattle.tty_host.specs.Ends.{IsScriptStatus, Writes}
+use Rattle.tty_host.specs.Ends.{IsRunStatus, IsScriptStatus, Writes}
 use Rattle.tty_host.specs.Tops.{IsValid, RanScript}
 
 -- a new run is to write all of the machine's output
 pub start-come : (run : Run) (text : List ℕ) → run.kernel ≡ view boot → run.room ≡ 262144 → run.number ≡ 1 → run.line.items ≡ [] → to_come run text ≡ run_out (reads text)
 start-come run text kernel room number line = rw (kernel, room, number, line) (sym (run_out-seen (reads text)))
 
--- over an empty boot text that is the output of the script
-pub empty-boot : (boot_text text : List ℕ) → boot_text ≡ [] → script_out boot_text text ≡ run_out (reads text)
-unfolding bad_boot_line
-empty-boot boot_text text none = ap (λ bs. script_out bs text) none
+-- over a boot text without a bad line that is the output of the script
+pub good-boot : (boot_text text : List ℕ) (b : Boot) → boot_of boot_text ≡ Ok b → script_out boot_text text ≡ run_out (reads text)
+good-boot boot_text text b e = ap (λ says. after_boot says text) e
 
--- a boot text that is not empty is bad at line 1
-pub bad-boot : (boot_text text : List ℕ) → (boot_text ≡ [] → ⊥) → script_out boot_text text ≡ boot_end 1
-unfolding bad_boot_line
-bad-boot [] text some = absurd (some refl)
-bad-boot (b ∷ bs) text some = rw (ne_eqb (length (b ∷ bs)) 0 (omega arith)) refl
+pub bad-boot : (boot_text text : List ℕ) (n : ℕ) → boot_of boot_text ≡ Err n → script_out boot_text text ≡ boot_end n
+bad-boot boot_text text n e = ap (λ says. after_boot says text) e
+
+-- the script is read over a boot text without a bad line alone
+pub no-bad-line : (says : Result Boot ℕ) (b : Boot) → says ≡ Ok b → IsErr says → ⊥
+no-bad-line says b e bad = cc
+
+after-good : (says : Result Boot ℕ) (text : List ℕ) → IsOk says → after_boot says text ≡ run_out (reads text)
+after-good (Ok b) text good = refl
+after-good (Err n) text good = cc
 
 -- valid texts have the status 0
 valid-status : (boot_text text : List ℕ) → IsValid boot_text text → (script_out boot_text text).status ≡ 0
 unfolding text_end
 valid-status boot_text text h =
-    ap (λ bad. (after_boot bad text).status) h.boot
+    ap (λ out. out.status) (after-good (boot_of boot_text) text h.boot)
     ∙ rw (le-ltb 262144 (length (reads text).events) h.fits, h.script) refl
 
--- so where nothing failed no other status is left
-complete : (status : Status) (out : Output) (a b : Option (List ℕ)) → IsScriptStatus status → Writes status out a b → out.status ≡ 0 → (status ≡ ReadFault → ⊥) → (status ≡ WriteFault → ⊥) → status ≡ Done
-complete Done out a b s w zero read write = refl
+-- the run of a script ends as a script may, and not for want of memory
+pub run-ends : (status : Status) → IsRunStatus status → IsScriptStatus status
+run-ends Done s = s
+run-ends Usage s = s
+run-ends Input s = s
+run-ends ReadFault s = s
+run-ends WriteFault s = s
+run-ends Memory s = absurd s
+run-ends Full s = s
+run-ends NoWorker s = s
+
+pub run-has-memory : (status : Status) → IsRunStatus status → status ≡ Memory → ⊥
+run-has-memory status s e = rw e at s
+
+-- so where nothing failed and there was memory no other status is left
+complete : (status : Status) (out : Output) (a b : Option (List ℕ)) → IsScriptStatus status → Writes status out a b → out.status ≡ 0 → (status ≡ ReadFault → ⊥) → (status ≡ WriteFault → ⊥) → (status ≡ Done) ⊎ (status ≡ Memory)
+complete Done out a b s w zero read write = inl refl
 complete Usage out a b s w zero read write = absurd s
 complete Input out a b s w zero read write = absurd (omega (arith, w.code))
 complete ReadFault out a b s w zero read write = absurd (read refl)
 complete WriteFault out a b s w zero read write = absurd (write refl)
-complete Memory out a b s w zero read write = absurd s
+complete Memory out a b s w zero read write = inr refl
 complete Full out a b s w zero read write = absurd (omega (arith, w.code))
 complete NoWorker out a b s w zero read write = absurd s
 
@@ -51,8 +72,9 @@ complete NoWorker out a b s w zero read write = absurd s
 pub ran : (status : Status) (source src : SourceUse) (out : SinkUse)
     → ((boot_text text : List ℕ) → source.left ≡ Some boot_text → src.left ≡ Some text → Writes status (script_out boot_text text) out.told out.after)
     → ((text : List ℕ) → src.left ≡ Some text → status ≡ Done → src.rest ≡ Some [])
-    → (status ≡ ReadFault → SourceFailed source ⊎ SourceFailed src) → (status ≡ WriteFault → SinkFailed out) → IsScriptStatus status → RanScript status source src out
-ran status source src out output all_read read write others = record {
+    → (status ≡ ReadFault → SourceFailed source ⊎ SourceFailed src) → (status ≡ WriteFault → SinkFailed out) → (status ≡ Memory → Unwritten out) → IsScriptStatus status
+    → ((boot_text : List ℕ) → source.left ≡ Some boot_text → IsErr (boot_of boot_text) → Unread src) → RanScript status source src out
+ran status source src out output all_read read write memory others unread = record {
   output = output;
   all_read = all_read;
   complete = λ boot_text text bl sl valid no_boot no_src no_out.
@@ -60,6 +82,8 @@ ran status source src out output all_read read write others = record {
       (λ e. elim (read e) [ inl b ↦ no_boot b | inr s ↦ no_src s ]) (λ e. no_out (write e));
   read_fault = read;
   write_fault = write;
+  memory = memory;
   others = others;
+  unread = unread;
   lawful = λ text left. obeys (reads text).events;
 }

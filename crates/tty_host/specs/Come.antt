@@ -1,7 +1,8 @@
 -- What a run still writes.
 use Rattle.std.specs.Prelude.{ℕ, ◌+◌, ◌-◌, ◌*◌, List, ◌++◌, Option, length}
 use Rattle.call_words.specs.declared.events.Event.{Event}
-use Rattle.machine_model.specs.Reading.{lines, reads_from}
+use Rattle.user_db.specs.Lines.{lines}
+use Rattle.machine_model.specs.Reading.{reads_from}
 use Rattle.machine_model.specs.Script.{Output}
 use Rattle.machine_model.specs.Seen.{out_seen}
 use Rattle.tty_host.specs.declared.run.Run.{Run}

@@ -18,14 +18,25 @@ code_of Memory = 5
 code_of Full = 6
 code_of NoWorker = 8
 
--- The statuses with which a script ends. It needs no memory and no worker yet.
+-- The statuses with which the run of a script ends. It needs no memory and no worker yet.
+abbrev pub IsRunStatus : Status → Type 0
+IsRunStatus Done = Unit {0}
+IsRunStatus Usage = ⊥
+IsRunStatus Input = Unit {0}
+IsRunStatus ReadFault = Unit {0}
+IsRunStatus WriteFault = Unit {0}
+IsRunStatus Memory = ⊥
+IsRunStatus Full = Unit {0}
+IsRunStatus NoWorker = ⊥
+
+-- The same of a script with its boot text, which needs memory.
 abbrev pub IsScriptStatus : Status → Type 0
 IsScriptStatus Done = Unit {0}
 IsScriptStatus Usage = ⊥
 IsScriptStatus Input = Unit {0}
 IsScriptStatus ReadFault = Unit {0}
 IsScriptStatus WriteFault = Unit {0}
-IsScriptStatus Memory = ⊥
+IsScriptStatus Memory = Unit {0}
 IsScriptStatus Full = Unit {0}
 IsScriptStatus NoWorker = ⊥
 
@@ -40,14 +51,14 @@ pub record WroteAll (status : Status) (out : Output) (told after : Option (List 
   pub appended : Appended told after out.bytes
   pub code : out.status ≡ code_of status
 
--- What a script wrote, by the status with which it ended: all of the machine's output, or after a
--- fault the front of it. No script ends in another way.
+-- What a script wrote, by the status with which it ended: all of the machine's output, after a
+-- fault the front of it, and nothing where memory ran out. No script ends in another way.
 abbrev pub Writes : Status → Output → Option (List ℕ) → Option (List ℕ) → Type 0
 Writes Done out told after = WroteAll Done out told after
 Writes Usage out told after = ⊥
 Writes Input out told after = WroteAll Input out told after
 Writes ReadFault out told after = Began told out.bytes after
 Writes WriteFault out told after = Began told out.bytes after
-Writes Memory out told after = ⊥
+Writes Memory out told after = after ≡ told
 Writes Full out told after = WroteAll Full out told after
 Writes NoWorker out told after = ⊥

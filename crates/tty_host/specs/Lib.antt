@@ -3,4 +3,5 @@ pub mod Told
 pub mod Ends
 pub mod Come
 pub mod Uses
+pub mod Boots
 pub mod Tops

@@ -1,12 +1,13 @@
 -- What the top calls promise.
-use Rattle.std.specs.Prelude.{◌≡◌, ℕ, ◌≤◌, ◌⊎◌, List, [], ◌∷◌, length, Some, None, if◌then◌else◌, codes}
+use Rattle.std.specs.Prelude.{◌≡◌, ℕ, ◌≤◌, ◌⊎◌, List, [], ◌∷◌, length, Some, None, IsOk, IsErr, if◌then◌else◌, codes}
 use Rattle.std.specs.Str.{bytes_eq}
 use Rattle.call_words.specs.declared.limits.TheConstants.{TRAIL_EVENTS}
 use Rattle.edge_io.specs.Outside.{Appended}
 use Rattle.machine_model.specs.Reading.{reads}
-use Rattle.machine_model.specs.Script.{bad_boot_line, script_out}
+use Rattle.user_db.specs.Boot.{boot_of}
+use Rattle.machine_model.specs.Script.{script_out}
 use Rattle.machine_model.specs.Laws.{ObeysLaws}
-use Rattle.tty_host.specs.Uses.{SourceUse, SinkUse, SourceFailed, SinkFailed}
+use Rattle.tty_host.specs.Uses.{SourceUse, SinkUse, SourceFailed, SinkFailed, Unread, Unwritten}
 use Rattle.tty_host.specs.Told.{Began}
 use Rattle.tty_host.specs.Ends.{IsScriptStatus, Writes}
 use Rattle.tty_host.specs.declared.choice.Choice.{Choice}
@@ -16,7 +17,7 @@ use Rattle.tty_host.specs.declared.status.Status.TheVariants.{Done, Usage, Input
 
 -- the boot text and the script have no bad line, and the script asks no more events than a run has
 pub record IsValid (boot_text text : List ℕ) : Type 0 where
-  pub boot : bad_boot_line boot_text ≡ None
+  pub boot : IsOk (boot_of boot_text)
   pub script : (reads text).bad ≡ None
   pub fits : length (reads text).events ≤ TRAIL_EVENTS
 
@@ -26,12 +27,16 @@ pub record RanScript (status : Status) (boot src : SourceUse) (out : SinkUse) : 
   pub output : (boot_text text : List ℕ) → boot.left ≡ Some boot_text → src.left ≡ Some text → Writes status (script_out boot_text text) out.told out.after
   -- status 0 says that the text was read to its end
   pub all_read : (text : List ℕ) → src.left ≡ Some text → status ≡ Done → src.rest ≡ Some []
-  -- valid texts give status 0 where nothing failed
-  pub complete : (boot_text text : List ℕ) → boot.left ≡ Some boot_text → src.left ≡ Some text → IsValid boot_text text → ¬ SourceFailed boot → ¬ SourceFailed src → ¬ SinkFailed out → status ≡ Done
+  -- valid texts give status 0 where nothing failed and there was memory
+  pub complete : (boot_text text : List ℕ) → boot.left ≡ Some boot_text → src.left ≡ Some text → IsValid boot_text text → ¬ SourceFailed boot → ¬ SourceFailed src → ¬ SinkFailed out → (status ≡ Done) ⊎ (status ≡ Memory)
   -- statuses 3 and 4 come only where a count of faults rose in the call
   pub read_fault : status ≡ ReadFault → SourceFailed boot ⊎ SourceFailed src
   pub write_fault : status ≡ WriteFault → SinkFailed out
+  -- status 5 comes only with nothing written
+  pub memory : status ≡ Memory → Unwritten out
   pub others : IsScriptStatus status
+  -- the boot text is read before the script, which is not read where that has a bad line
+  pub unread : (boot_text : List ℕ) → boot.left ≡ Some boot_text → IsErr (boot_of boot_text) → Unread src
   -- in the run of the script each refusal names the first rule that denies, and no byte of a line
   -- moves through a file that was opened before the line's last revoke
   pub lawful : (text : List ℕ) → src.left ≡ Some text → ObeysLaws (reads text).events
@@ -50,7 +55,9 @@ WroteUsage Memory out = ⊥
 WroteUsage Full out = ⊥
 WroteUsage NoWorker out = ⊥
 
--- the command that words choose: `script` alone is built
+-- the command that words choose: `script` is built, with the index of its second word if it has one
 abbrev pub choice_of : List (List ℕ) → Choice
+choice_of [] = choice.Usage
 choice_of (w ∷ []) = if bytes_eq w (codes "script") then choice.Script None else choice.Usage
-choice_of _ = choice.Usage
+choice_of (w ∷ boot ∷ []) = if bytes_eq w (codes "script") then choice.Script (Some 1) else choice.Usage
+choice_of (w ∷ boot ∷ another ∷ more) = choice.Usage

@@ -1,5 +1,5 @@
 -- What a call did with the outside.
-use Rattle.std.specs.Prelude.{ℕ, List, Option}
+use Rattle.std.specs.Prelude.{◌≡◌, ℕ, List, Option}
 use Rattle.edge_io.specs.Outside.{Rose}
 
 -- a source: what was left before the call and after it, where the source tells that, and its
@@ -28,3 +28,10 @@ SourceFailed u = Rose u.faults u.later
 
 abbrev pub SinkFailed : SinkUse → Type 0
 SinkFailed u = Rose u.faults u.later
+
+-- as before the call
+abbrev pub Unread : SourceUse → Type 0
+Unread u = (u.rest ≡ u.left) × (u.later ≡ u.faults)
+
+abbrev pub Unwritten : SinkUse → Type 0
+Unwritten u = (u.after ≡ u.told) × (u.later ≡ u.faults)

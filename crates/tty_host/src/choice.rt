@@ -1,5 +1,5 @@
 //! Which command the words of a command line choose.
-ghost use Rattle.std.specs.Prelude.{◌≡◌, List, map};
+ghost use Rattle.std.specs.Prelude.{◌≡◌, ℕ, ◌<◌, List, length, map, Some};
 ghost use Rattle.std.specs.String.{string_bytes};
 ghost use Rattle.tty_host.specs.Tops.{choice_of};
 
@@ -14,10 +14,13 @@ pub enum Choice {
 
 /// The command that the words after the program's name choose. It takes no memory.
 pub fn choose(words: &[String]) -> Choice
-    ensures { result ≡ choice_of (map string_bytes words.now) }
+    ensures choice { result ≡ choice_of (map string_bytes words.now) }
+    // A word that is named is there.
+    ensures named { (i : ℕ) → result ≡ Choice.Script (Some i) → i < length words.now }
 {
     match words {
         [word] if word.as_bytes() == b"script".as_slice() => Choice::Script { boot: None },
+        [word, _] if word.as_bytes() == b"script".as_slice() => Choice::Script { boot: Some(1) },
         _ => Choice::Usage,
     }
 }

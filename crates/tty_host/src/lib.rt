@@ -2,8 +2,10 @@
 //!
 //! A script is read in bounded pieces, a line at a time, and each event's answer is written
 //! before the next byte is looked at, so a run needs the same memory for a text of any length.
+//! The boot text that comes before it is held whole, as far as it is no longer than any can be.
 #![tactic(auto)]
 
+mod boot;
 mod built;
 mod choice;
 mod print;

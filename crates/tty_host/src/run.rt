@@ -8,7 +8,7 @@ ghost use Rattle.machine_model.specs.View.{view};
 ghost use Rattle.machine_model.specs.Step.{MayBeAsked};
 ghost use Rattle.machine_model.specs.Script.{Output, text_end};
 ghost use Rattle.tty_host.specs.Told.{Began};
-ghost use Rattle.tty_host.specs.Ends.{IsScriptStatus, stop_status};
+ghost use Rattle.tty_host.specs.Ends.{IsRunStatus, stop_status};
 ghost use Rattle.tty_host.specs.OneLine.{is_one_line};
 
 use crate::built::read_built_line;
@@ -220,7 +220,7 @@ impl Run {
         ensures all { (text : List ℕ) → S.left src.old ≡ Some text → result ≡ Status.Done → S.left src.new ≡ Some [] }
         ensures read_fault { result ≡ Status.ReadFault → Rose (S.faults src.old) (S.faults src.new) }
         ensures write_fault { result ≡ Status.WriteFault → Rose (K.faults out.old) (K.faults out.new) }
-        ensures others { IsScriptStatus result }
+        ensures others { IsRunStatus result }
     {
         let mut buffer = [0; PIECE_BYTES];
         loop {

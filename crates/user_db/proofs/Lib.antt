@@ -1,2 +1,3 @@
 mod LinesCome
 pub mod NoUsers
+pub mod TooLong

@@ -13,7 +13,7 @@ mod user;
 
 pub use boot::{Boot, TTYS};
 pub use fault::{BootFault, NoMemory};
-pub use line::{BOOT_LINE_BYTES, BOOT_LINES};
+pub use line::{BOOT_LINE_BYTES, BOOT_LINES, BOOT_TEXT_BYTES};
 pub use name::{NAME_BYTES, Name};
 pub use read::read_boot;
 pub use user::{DIGEST_BYTES, SALT_BYTES, User, Users};

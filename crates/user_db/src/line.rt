@@ -8,6 +8,10 @@ pub const BOOT_LINES: u32 = 256;
 /// How many bytes a line of a boot text has at most, without its newline.
 pub const BOOT_LINE_BYTES: usize = 4096;
 
+/// How many bytes a boot text has at most, with its newlines. A text of more is bad, and its first
+/// bad line is told by any front of it that is longer than this.
+pub const BOOT_TEXT_BYTES: usize = BOOT_LINES as usize * (BOOT_LINE_BYTES + 1);
+
 /// What a line of a boot text says.
 #[derive(Clone, Copy, Debug, PartialEq, Eq)]
 pub(crate) enum BootLine {

@@ -58,7 +58,7 @@ const RUNS: [Faults; 7] = [
         status: Status::ReadFault,
     },
     Faults {
-        boot_text: "recheck on\n",
+        boot_text: "recheck\n",
         boot: 0,
         src: 0,
         out: 0,
@@ -75,7 +75,7 @@ const RUNS: [Faults; 7] = [
     },
 ];
 
-fn failing(alloc: Global, call: u64) -> Result<Vec<u64>, AllocError> {
+pub fn failing(alloc: Global, call: u64) -> Result<Vec<u64>, AllocError> {
     if call == 0 {
         Ok(Vec::new(alloc))
     } else {
@@ -97,7 +97,7 @@ fn faults_and_boot_texts(rt: HostRuntime) -> Result<(), Fail> {
         let mut boot = memory(rt.alloc(), run.boot_text, run.boot)?;
         let mut src = memory(rt.alloc(), TEXT, run.src)?;
         let mut out = MemSink::new(rt.alloc(), 100, failing(rt.alloc(), run.out)?)?;
-        let status = plain_top(&words, &mut boot, &mut src, &mut out);
+        let status = plain_top(rt.alloc(), &words, &mut boot, &mut src, &mut out);
         assert_eq!(rt; out.written(), run.written.as_bytes(), "in run {i}");
         assert_eq!(rt; status, run.status, "in run {i}");
     }
@@ -111,7 +111,7 @@ fn sink_without_room(rt: HostRuntime) -> Result<(), Fail> {
     let mut boot = memory(rt.alloc(), "", 0)?;
     let mut src = memory(rt.alloc(), TEXT, 0)?;
     let mut out = MemSink::new(rt.alloc(), 9, Vec::new(rt.alloc()))?;
-    let status = plain_top(&words, &mut boot, &mut src, &mut out);
+    let status = plain_top(rt.alloc(), &words, &mut boot, &mut src, &mut out);
     assert_eq!(rt; out.written(), b"0 ok 0\n0 ".as_slice());
     assert_eq!(rt; status, Status::WriteFault);
     Ok(())

@@ -5,6 +5,8 @@
 #![tactic(auto)]
 
 #[cfg(test)]
+mod boots;
+#[cfg(test)]
 mod faults;
 #[cfg(test)]
 mod rows;

@@ -8,16 +8,20 @@ pub fn run(alloc: Global, text: &[u8]) -> Result<(Vec<u8>, Status), AllocError> 
     let mut boot = MemSource::new(Vec::new(alloc), Vec::new(alloc));
     let mut src = MemSource::new(Vec::from_slice(alloc, text)?, Vec::new(alloc));
     let mut out = MemSink::new(alloc, 4_000_000, Vec::new(alloc))?;
-    let status = script_top(&mut boot, &mut src, &mut out);
+    let status = script_top(alloc, &mut boot, &mut src, &mut out);
     Ok((Vec::from_slice(alloc, out.written())?, status))
 }
 
 const EMPTY_TEXT: (&str, &str) = ("", "");
 
-const FIRST_RUN: (&str, &str) = (
-    "0 open /dev/tty7 rw\nin tty7 68\n0 read 0 100\n0 write 0 6869\nin tty7 79\n0 revoke /dev/tty7\n0 read 0 100\n0 write 0 7a\ntake tty7 100\n0 close 0\n",
-    "0 ok 0\ntty7 noted\n0 bytes 68\n0 ok 2\ntty7 noted\n0 ok 0\n0 bytes -\n0 err EIO dead\ntty7 out -\n0 ok 0\n",
-);
+/// The script of the first run, and its answers.
+pub const FIRST_TEXT: &str =
+    "0 open /dev/tty7 rw\nin tty7 68\n0 read 0 100\n0 write 0 6869\nin tty7 79\n0 revoke /dev/tty7\n0 read 0 100\n0 write 0 7a\ntake tty7 100\n0 close 0\n";
+
+pub const FIRST_ANSWERS: &str =
+    "0 ok 0\ntty7 noted\n0 bytes 68\n0 ok 2\ntty7 noted\n0 ok 0\n0 bytes -\n0 err EIO dead\ntty7 out -\n0 ok 0\n";
+
+const FIRST_RUN: (&str, &str) = (FIRST_TEXT, FIRST_ANSWERS);
 
 /// After a revoke a new descriptor reads no byte that came before it was opened.
 const NO_EARLIER_BYTE: (&str, &str) = (

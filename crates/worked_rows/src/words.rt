@@ -3,25 +3,42 @@ use call_words::{
 };
 use edge_io::{MemSink, MemSource};
 use kern_core::Kernel;
+use std::alloc::{AllocError, Global};
 use std::test::Fail;
 use tty_host::{Choice, Status, choose, plain_top};
 
 const USAGE: &str =
     "usage: revtty script [BOOT] | session [BOOT] | load N START | serve DIR BOOT\n";
 
+/// The words of a command line, after the program's name.
+pub fn words_of(alloc: Global, text: &str) -> Result<Vec<String>, AllocError> {
+    let mut words = Vec::new(alloc);
+    for word in text.split_whitespace() {
+        words.push(word.to_string(alloc)?)?;
+    }
+    Ok(words)
+}
+
+/// The boot text is named by the second word.
+#[test]
+fn scripts(rt: HostRuntime) -> Result<(), Fail> {
+    for (text, boot) in [("script", None), ("script b", Some(1))] {
+        let words = words_of(rt.alloc(), text)?;
+        assert_eq!(rt; choose(&words), Choice::Script { boot }, "for {text:?}");
+    }
+    Ok(())
+}
+
 /// Words of no form, and forms that are not built yet, give the usage line.
 #[test]
 fn usage(rt: HostRuntime) -> Result<(), Fail> {
-    for text in ["script a b", "jump", "", "script BOOT", "session", "Script"] {
-        let mut words = Vec::new(rt.alloc());
-        for word in text.split_whitespace() {
-            words.push(word.to_string(rt.alloc())?)?;
-        }
+    for text in ["script a b", "jump", "", "jump b", "session b", "Script"] {
+        let words = words_of(rt.alloc(), text)?;
         let mut boot = MemSource::new(Vec::new(rt.alloc()), Vec::new(rt.alloc()));
         let mut src = MemSource::new(Vec::new(rt.alloc()), Vec::new(rt.alloc()));
         let mut out = MemSink::new(rt.alloc(), 100, Vec::new(rt.alloc()))?;
         assert_eq!(rt; choose(&words), Choice::Usage, "for {text:?}");
-        let status = plain_top(&words, &mut boot, &mut src, &mut out);
+        let status = plain_top(rt.alloc(), &words, &mut boot, &mut src, &mut out);
         assert_eq!(rt; status, Status::Usage, "for {text:?}");
         assert_eq!(rt; out.written(), USAGE.as_bytes(), "for {text:?}");
     }

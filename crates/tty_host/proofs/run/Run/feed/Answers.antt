@@ -1,5 +1,5 @@
 use Rattle.std.proofs.Common.{◌≡◌, ◌<◌, ◌++◌, ◌∷◌, [], length, ap, ◌∙◌, sym, arith, length-append, eqb-true, append_assoc}
-use Rattle.machine_model.specs.Reading.{lines}
+use Rattle.user_db.specs.Lines.{lines}
 use Rattle.tty_host.specs.Come.{lines_come}
 use Rattle.tty_host.proofs.Told.{goes-at, goes-ok, keeps-same}
 use Rattle.tty_host.proofs.LinesCome.{lines-newline, one_line-byte, long-line, goes-emptied}
