@@ -8,9 +8,9 @@ use Rattle.acl_core.specs.declared.entry.Entry.{Entry as ListEntry}
 use Rattle.access_rule.specs.declared.Attrs.{Attrs}
 use Rattle.access_rule.specs.Tree.{NodeRecord, is_dir, is_dir_record}
 use Rattle.vnode_tree.specs.declared.entry.Entry.{Entry}
-use Rattle.vnode_tree.specs.Nodes.{Named, IsLive, named_at, path_in, path_of, record_of, tree_of, with_node, with_record, with_attrs, with_default, new_node, changed, is_name, count_of, ChangesAt}
+use Rattle.vnode_tree.specs.Nodes.{Named, IsLive, named_at, path_in, path_of, record_of, tree_of, with_node, with_record, with_attrs, with_default, new_node, changed, is_name, count_of, ChangesAt, IsRemovable}
 use Rattle.vnode_tree.specs.Links.{entry_at, path_up, record_in, nodes_of, with_entry, entry_with_attrs, entry_with_default}
-use Rattle.vnode_tree.specs.Kept.{IsKept, size_in}
+use Rattle.vnode_tree.specs.Kept.{IsKept, IsDirAt, size_in}
 use Rattle.vnode_tree.specs.Contents.{size_of, space_of}
 use Rattle.vnode_tree.specs.Standard.{Keeps}
 use Rattle.vnode_tree.proofs.Paths.{path_is as step_of, root_path, same_node_path}
@@ -115,16 +115,21 @@ pub record Removed (nodes : List (Option Named)) (n : ℕ) (others : List (Optio
   pub gone : nodes_of others ≡ with_node nodes n None
   pub changes : ChangesAt (path_of nodes n) None nodes (nodes_of others)
 
-removed_here : (entries : List (Option Entry)) (n : ℕ) → IsKept entries → IsLive (nodes_of entries) n → ((name : List ℕ) → tree_of (nodes_of entries) (path_of (nodes_of entries) n ++ name ∷ []) ≡ None) → path_of (nodes_of entries) n ≢ [] → Removed (nodes_of entries) n (set entries n None)
-removed_here entries n kept live leaf below =
+removed_here : (entries : List (Option Entry)) (n : ℕ) → IsKept entries → IsLive (nodes_of entries) n → (IsTrue (is_dir_record (record_of (nodes_of entries) n)) → IsRemovable (nodes_of entries) n) → Removed (nodes_of entries) n (set entries n None)
+removed_here entries n kept live removable =
     let here = some_entry (entry_at entries n) (live_entry entries (nodes_of entries) n refl live) in
     let there = placed entries n here.0 kept here.1 in
     let path_is : path_of (nodes_of entries) n ≡ there.path = ap (λ (o : Option Named). path_in o) there.named in
+    let of_dir : is_dir (here.0).kind ≡ true → IsRemovable (nodes_of entries) n = λ is. removable (ap (λ (o : Option Named). is_dir_record (option_map (λ (x : Named). x.node) o)) there.named ∙ is) in
     let other : n ≢ 0 = λ same.
+    let root_is : here.0 ≡ (kept.root).0 = let both : Some here.0 ≡ Some (kept.root).0 = sym here.1 ∙ ap (entry_at entries) same ∙ (kept.root).1 in cc in
     let root : path_up (suc 1023) entries n ≡ Some [] = subst (λ i. path_up (suc 1023) entries i ≡ Some []) (sym same) (root_path 1023 entries here.0 (subst (λ i. entry_at entries i ≡ Some here.0) same here.1)) in
-    below (path_is ∙ same_node_path (length entries) (suc 1023) entries n there.path [] there.up root) in
+    (of_dir (ap (λ (x : Entry). is_dir x.kind) root_is ∙ ap is_dir (kept.root).3)).below (path_is ∙ same_node_path (length entries) (suc 1023) entries n there.path [] there.up root) in
     let alone : (m : ℕ) (e : Entry) → entry_at entries m ≡ Some e → m ≢ 0 → e.dir ≢ n = λ m e at apart same.
     let is = placed entries m e kept at in
+    let in_dir = kept.above m e at apart in
+    let dir_is : in_dir.entry ≡ here.0 = let both : Some in_dir.entry ≡ Some here.0 = sym in_dir.here ∙ ap (entry_at entries) same ∙ here.1 in cc in
+    let leaf = (of_dir (ap (λ (x : Entry). is_dir x.kind) (sym dir_is) ∙ in_dir.directory)).leaf in
     elim (step_of (length entries) entries m is.path is.up) [
       | inl root ↦ apart root.here
       | inr down ↦
@@ -146,9 +151,9 @@ removed_here entries n kept live leaf below =
       changes = rw path_is (subst (ChangesAt there.path None (nodes_of entries)) same_nodes whole);
     }
 
-pub removed : (entries : List (Option Entry)) (nodes : List (Option Named)) (n : ℕ) → nodes_of entries ≡ nodes → IsKept entries → IsLive nodes n → ((name : List ℕ) → tree_of nodes (path_of nodes n ++ name ∷ []) ≡ None) → path_of nodes n ≢ [] → Removed nodes n (set entries n None)
-removed entries nodes n view kept live leaf below =
-    subst (λ (ns : List (Option Named)). IsLive ns n → ((name : List ℕ) → tree_of ns (path_of ns n ++ name ∷ []) ≡ None) → path_of ns n ≢ [] → Removed ns n (set entries n None)) view (removed_here entries n kept) live leaf below
+pub removed : (entries : List (Option Entry)) (nodes : List (Option Named)) (n : ℕ) → nodes_of entries ≡ nodes → IsKept entries → IsLive nodes n → (IsTrue (is_dir_record (record_of nodes n)) → IsRemovable nodes n) → Removed nodes n (set entries n None)
+removed entries nodes n view kept live removable =
+    subst (λ (ns : List (Option Named)). IsLive ns n → (IsTrue (is_dir_record (record_of ns n)) → IsRemovable ns n) → Removed ns n (set entries n None)) view (removed_here entries n kept) live removable
 
 -- a node that is made, as contracts say it
 pub record Made (nodes : List (Option Named)) (n : ℕ) (path : List (List ℕ)) (node : NodeRecord) (others : List (Option Entry)) : Type 0 where
@@ -204,7 +209,9 @@ made_here entries n entry kept found dir named dirs empty none =
     let path_is : path_of (nodes_of entries) entry.dir ≡ there.path = ap (λ (o : Option Named). path_in o) there.named in
     let path : List (List ℕ) = there.path ++ entry.name ∷ [] in
     let absent : tree_of (nodes_of entries) (there.path ++ entry.name ∷ []) ≡ None = subst (λ (q : List (List ℕ)). tree_of (nodes_of entries) (q ++ entry.name ∷ []) ≡ None) path_is none in
-    let done = made_entry entries n entry there.path kept at.0 free there.up (name_some entry.name named) dirs empty absent in
+    let is_a_dir : is_dir (above.0).kind ≡ true = sym (ap (λ (o : Option Named). is_dir_record (option_map (λ (x : Named). x.node) o)) there.named) ∙ dir in
+    let into : IsDirAt entries entry.dir = record { entry = above.0; here = above.1; directory = is_a_dir } in
+    let done = made_entry entries n entry there.path kept at.0 free there.up into (name_some entry.name named) dirs empty absent in
     let free_node : named_at (nodes_of entries) n ≡ None = free_named entries n free in
     let inside : n < length (nodes_of entries) = omega (arith, length-nodes entries, at.0) in
     let owns : Owns (nodes_of entries) n (there.path ++ entry.name ∷ []) = record {

@@ -1,5 +1,5 @@
 -- A node that is changed, made or taken away.
-use Rattle.std.proofs.Common.{◌≡◌, ◌≢◌, inl, inr, ℕ, suc, ◌+◌, ◌<◌, ◌≤◌, false, List, [], ◌∷◌, ◌++◌, length, set, get_or, Option, Some, None, refl, sym, ap, ◌∙◌, arith, subst}
+use Rattle.std.proofs.Common.{◌≡◌, ◌≢◌, inl, inr, ℕ, suc, ◌+◌, ◌<◌, ◌≤◌, true, false, List, [], ◌∷◌, ◌++◌, length, set, get_or, Option, Some, None, refl, sym, ap, ◌∙◌, arith, subst}
 use Rattle.std.specs.Prelude.{IsSome, is_some, sum_by}
 use Rattle.std.proofs.lemmas.List.{get_or-set_same, get_or-set_other, length-set}
 use Rattle.std.proofs.lemmas.List.Sums.{sum_by-set}
@@ -8,7 +8,7 @@ use Rattle.access_rule.specs.Tree.{is_dir}
 use Rattle.vnode_tree.specs.declared.entry.Entry.{Entry}
 use Rattle.vnode_tree.specs.Nodes.{Named, tree_of}
 use Rattle.vnode_tree.specs.Links.{entry_at, path_up, record_in, named_of, nodes_of}
-use Rattle.vnode_tree.specs.Kept.{IsKept, size_in}
+use Rattle.vnode_tree.specs.Kept.{IsKept, IsDirAt, size_in}
 use Rattle.vnode_tree.proofs.Paths.{path_is, Has, kept_path, enough_fuel, exact_fuel, below_path, same_node_path}
 use Rattle.vnode_tree.proofs.Counts.{live_within, path_counts, count_with_free}
 use Rattle.vnode_tree.proofs.Trees.{at_its_path}
@@ -68,6 +68,19 @@ origin entries n entry like i e kept at is there = elim (after_set entries n i (
   | inr other ↦ record { was = e; at = other.1; dir = refl; name = refl; kind = refl; is_dir = kept.kinds i e other.1 }
 ]
 
+-- a directory is one after a change of a node
+dir_stays : (entries : List (Option Entry)) (n : ℕ) (entry like : Entry) (dir : ℕ) → n < length entries → entry_at entries n ≡ Some entry → IsLike entry like → IsDirAt entries dir → IsDirAt (set entries n (Some like)) dir
+dir_stays entries n entry like dir below at is a = elim (cases_eq dir n) [
+  | inl same ↦
+      let one : entry ≡ a.entry = let both : Some entry ≡ Some a.entry = sym at ∙ ap (entry_at entries) (sym same) ∙ a.here in cc in
+      record {
+        entry = like;
+        here = ap (entry_at (set entries n (Some like))) same ∙ get_or-set_same entries n (Some like) None below;
+        directory = ap is_dir (is.kind ∙ ap (λ (x : Entry). x.kind) one) ∙ a.directory;
+      }
+  | inr other ↦ record { entry = a.entry; here = get_or-set_other entries n dir (Some like) None other ∙ a.here; directory = a.directory }
+]
+
 -- a place that is live after a change has a path, where each that was live has
 placed_after : (entries others : List (Option Entry)) (i : ℕ) → IsKept entries → ((i : ℕ) (p : List (List ℕ)) → path_up (length entries) entries i ≡ Some p → path_up (length others) others i ≡ Some p) → (entry_at entries i ≡ None → entry_at others i ≡ None) → IsSome (entry_at others i) → IsSome (path_up (length others) others i)
 placed_after entries others i kept went dead live =
@@ -99,6 +112,9 @@ changed_entry entries n entry like path kept at up is fits =
         names = λ i e at_i other.
             let o = origin entries n entry like i e kept at is at_i in
             omega (arith, kept.names i o.was o.at other, ap (λ (x : List ℕ). length x) o.name);
+        above = λ i e at_i other.
+            let o = origin entries n entry like i e kept at is at_i in
+            subst (IsDirAt others) (sym o.dir) (dir_stays entries n entry like (o.was).dir below at is (kept.above i o.was o.at other));
         placed = λ i live.
             placed_after entries others i kept went (λ dead. elim (cases_eq i n) [
               | inl here ↦ absurd (let none : Some entry ≡ None = sym at ∙ ap (entry_at entries) (sym here) ∙ dead in cc)
@@ -121,9 +137,9 @@ abbrev pub not_here : ℕ → ℕ → Type 0
 not_here n i = i ≢ n
 
 -- a node is made in a free place
-pub made_entry : (entries : List (Option Entry)) (n : ℕ) (entry : Entry) (above : List (List ℕ)) → IsKept entries → n < length entries → entry_at entries n ≡ None → path_up (length entries) entries entry.dir ≡ Some above → 0 < length entry.name → entry.attrs.is_dir ≡ is_dir entry.kind → sum_by size_in entries + length entry.contents ≤ 4194304 → tree_of (nodes_of entries) (above ++ entry.name ∷ []) ≡ None
+pub made_entry : (entries : List (Option Entry)) (n : ℕ) (entry : Entry) (above : List (List ℕ)) → IsKept entries → n < length entries → entry_at entries n ≡ None → path_up (length entries) entries entry.dir ≡ Some above → IsDirAt entries entry.dir → 0 < length entry.name → entry.attrs.is_dir ≡ is_dir entry.kind → sum_by size_in entries + length entry.contents ≤ 4194304 → tree_of (nodes_of entries) (above ++ entry.name ∷ []) ≡ None
     → Changed entries (set entries n (Some entry)) n (Some (record { path = above ++ entry.name ∷ []; node = record_in entry }))
-made_entry entries n entry above kept below free up named dirs empty none =
+made_entry entries n entry above kept below free up into named dirs empty none =
     let others : List (Option Entry) = set entries n (Some entry) in
     let size : length others ≡ length entries = length-set entries n (Some entry) in
     let there : entry_at others n ≡ Some entry = get_or-set_same entries n (Some entry) None below in
@@ -159,6 +175,12 @@ made_entry entries n entry above kept below free up named dirs empty none =
           | inl here ↦ let one : entry ≡ e = let both : Some entry ≡ Some e = here.1 in cc in omega (arith, named, ap (λ (x : Entry). length x.name) one)
           | inr there ↦ kept.names i e there.1 apart
         ];
+        above = λ i e at_i apart.
+            let in_dir : IsDirAt entries e.dir = elim (after_set entries n i (Some entry) e below at_i) [
+              | inl here ↦ let one : entry ≡ e = let both : Some entry ≡ Some e = here.1 in cc in subst (λ (x : Entry). IsDirAt entries x.dir) one into
+              | inr there ↦ kept.above i e there.1 apart
+            ] in
+            record { entry = in_dir.entry; here = stays e.dir in_dir.entry in_dir.here; directory = in_dir.directory };
         placed = λ i live. elim (cases_eq i n) [
           | inl here ↦ subst (λ o. IsSome o) (sym (ap (path_up (length others) others) here ∙ path_here)) refl
           | inr apart ↦ placed_after entries others i kept went (λ dead. get_or-set_other entries n i (Some entry) None apart ∙ dead) live
@@ -214,6 +236,10 @@ removed_entry entries n entry kept at other alone =
         size = size ∙ kept.size;
         root = (kept.root.0, get_or-set_other entries n 0 None None (λ same. other (sym same)) ∙ kept.root.1, kept.root.2, kept.root.3);
         names = λ i e at_i apart. kept.names i e (was i e at_i).1 apart;
+        above = λ i e at_i apart.
+            let there_was = (was i e at_i).1 in
+            let in_dir = kept.above i e there_was apart in
+            record { entry = in_dir.entry; here = get_or-set_other entries n e.dir None None (alone i e there_was apart) ∙ in_dir.here; directory = in_dir.directory };
         placed = λ i live. elim (cases_eq i n) [
           | inl here ↦ absurd (let no : is_some (entry_at others i) ≡ false = ap is_some (ap (entry_at others) here ∙ there) in cc)
           | inr apart ↦ elim (entry_at entries i) as (λ o. entry_at entries i ≡ o → IsSome (path_up (length others) others i)) [

@@ -58,6 +58,7 @@ root_kept entries root size t is = record {
   size = size;
   root = (root, t.first, is.name, is.kind);
   names = λ n e at other. absurd (other (only_root entries root n e t at).0);
+  above = λ n e at other. absurd (other (only_root entries root n e t at).0);
   placed = λ n live. elim (cases_eq n 0) [
     | inl here ↦ subst (λ o. IsSome o) (sym (ap (path_up (length entries) entries) here ∙ subst (λ k. path_up k entries 0 ≡ Some []) (sym size) (root_path 1023 entries root t.first))) refl
     | inr other ↦ absurd (let no : is_some (entry_at entries n) ≡ false = ap is_some (t.others n other) in cc)

@@ -1,6 +1,6 @@
 -- What contracts see of a tree: its nodes by their names of one number, each with its path and with what it is. The finite
 -- map from paths to nodes is read off it.
-use Rattle.std.specs.Prelude.{◌≡◌, ℕ, Bool, true, false, ◌&&◌, List, [], ◌∷◌, ◌++◌, Option, Some, None, IsSome, is_some, count_by, slice_index_or, slice_set, not, if◌then◌else◌, option_map}
+use Rattle.std.specs.Prelude.{◌≡◌, ◌≢◌, ℕ, Bool, true, false, ◌&&◌, List, [], ◌∷◌, ◌++◌, Option, Some, None, IsSome, is_some, count_by, slice_index_or, slice_set, not, if◌then◌else◌, option_map}
 use Rattle.std.specs.List.{list_all}
 use Rattle.std.specs.Str.{bytes_eq}
 use Rattle.acl_core.specs.declared.entry.Entry.{Entry}
@@ -99,6 +99,11 @@ pub record IsAt (nodes : List (Option Named)) (path : List (List ℕ)) (number :
 -- no name leads on from a path
 abbrev pub IsLeaf : List (Option Named) → List (List ℕ) → Type 0
 IsLeaf nodes path = (name : List ℕ) → tree_of nodes (path ++ name ∷ []) ≡ None
+
+-- a node may go: no name leads on from it, and it is not the root
+pub record IsRemovable (nodes : List (Option Named)) (number : ℕ) : Type 0 where
+  pub below : path_of nodes number ≢ []
+  pub leaf : IsLeaf nodes (path_of nodes number)
 
 -- some name leads on from a path
 abbrev pub HasChild : List (Option Named) → List (List ℕ) → Type 0

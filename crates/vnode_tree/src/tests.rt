@@ -225,10 +225,20 @@ fn make(rt: &impl Abort, tree: &mut Tree, path: &[u8], kind: Kind) -> Result<(),
     }
 }
 
-/// Takes a node away that is there and has no children.
-fn remove(rt: &impl Abort, tree: &mut Tree, path: &str) {
+/// Takes a directory away that has no children.
+fn remove_dir(rt: &impl Abort, tree: &mut Tree, path: &str) {
     let node = at(rt, tree, path);
     if tree.has_children(node) || tree.is_root(node) {
+        assert!(rt; false, "{path}");
+        return;
+    }
+    tree.remove(node);
+}
+
+/// Takes a node away that is no directory.
+fn remove(rt: &impl Abort, tree: &mut Tree, path: &str) {
+    let node = at(rt, tree, path);
+    if tree.is_dir(node) {
         assert!(rt; false, "{path}");
         return;
     }
@@ -298,7 +308,7 @@ fn changes_are_seen_where_they_were_made(rt: HostRuntime) -> Result<(), Fail> {
 
     remove(&rt, &mut tree, "/tmp/d/f");
     assert!(rt; !tree.has_children(at(&rt, &tree, "/tmp/d")));
-    remove(&rt, &mut tree, "/tmp/d");
+    remove_dir(&rt, &mut tree, "/tmp/d");
     assert!(rt; matches!(walk(&rt, &tree, b"/tmp/d").end, End::Absent { .. }));
     Ok(())
 }

@@ -6,7 +6,7 @@ ghost use Rattle.vnode_tree.specs.Contents.{bytes_at, with_written, space_of};
 ghost use Rattle.vnode_tree.specs.Standard.{Keeps};
 ghost use Rattle.vnode_tree.specs.declared.TheConstants.{NODES, FILE_SPACE};
 ghost use Rattle.vnode_tree.specs.declared.tree.WriteFault.TheVariants.{Space};
-ghost use Rattle.vnode_tree.specs.Nodes.{IsLive, IsFile, is_file_record, IsAt, IsLeaf, HasChild, named_at, path_of, record_of, tree_of, with_node, with_record, with_attrs, with_default, with_contents, new_node, is_name, count_of, ChangesAt};
+ghost use Rattle.vnode_tree.specs.Nodes.{IsLive, IsFile, is_file_record, IsAt, IsLeaf, IsRemovable, HasChild, named_at, path_of, record_of, tree_of, with_node, with_record, with_attrs, with_default, with_contents, new_node, is_name, count_of, ChangesAt};
 
 use crate::FILE_SPACE;
 use crate::contents::Contents;
@@ -226,11 +226,10 @@ impl Tree {
         Ok(Node::of(place as u16))
     }
 
-    /// Takes a node away. It is live, has no children, and is not the root.
+    /// Takes a node away. It is live; if it is a directory, it has no children and is not the root.
     pub fn remove(&mut self, node: Node)
         requires live { IsLive self.old node }
-        requires leaf { IsLeaf self.old (path_of self.old node) }
-        requires below { path_of self.old node ≢ [] }
+        requires removable { IsTrue (is_dir_record (record_of self.old node)) → IsRemovable self.old node }
         ensures gone { self.new ≡ with_node self.old node None }
         ensures changes { ChangesAt (path_of self.old node) None self.old self.new }
     {

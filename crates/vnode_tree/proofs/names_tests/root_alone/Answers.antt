@@ -44,6 +44,7 @@ alone_kept entries root size alone name kind is_dir_too empty = record {
   size = size;
   root = (root, alone.first, name, kind);
   names = λ n entry at other. absurd (other (only_root entries root n entry alone at).0);
+  above = λ n entry at other. absurd (other (only_root entries root n entry alone at).0);
   placed = λ n live. elim (cases_eq n 0) [
     | inl here ↦ subst (λ o. IsSome o) (sym (ap (path_up (length entries) entries) here ∙ subst (λ k. path_up k entries 0 ≡ Some []) (sym size) (root_path 1023 entries root alone.first))) refl
     | inr other ↦ absurd (let no : is_some (entry_at entries n) ≡ false = ap is_some (alone.others n other) in cc)
