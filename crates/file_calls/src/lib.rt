@@ -1,0 +1,13 @@
+//! The calls on files: what stands at a path, by the rules that each part of it asks.
+//!
+//! Paths are resolved as path_resolution of POSIX.1, 4.13, says. The order of the rules is this project's own.
+#![tactic(auto)]
+
+mod caller;
+mod place;
+
+pub use caller::Caller;
+pub use place::{Place, find, find_node};
+
+#[cfg(test)]
+mod tests;
