@@ -1,3 +1,4 @@
 pub mod Access
+pub mod NewNodes
 pub mod Paths
 pub mod Tree

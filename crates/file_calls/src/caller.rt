@@ -12,4 +12,6 @@ pub struct Caller {
     pub label: Subject,
     /// The working directory.
     pub directory: Node,
+    /// The bits of a mode that new nodes do not get (umask(2)).
+    pub umask: u16,
 }

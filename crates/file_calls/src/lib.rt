@@ -4,9 +4,11 @@
 #![tactic(auto)]
 
 mod caller;
+mod make;
 mod place;
 
 pub use caller::Caller;
+pub use make::make_node;
 pub use place::{Place, find, find_node};
 
 #[cfg(test)]

@@ -1,10 +1,10 @@
 //! Paths and the rules that deny them, with the order of the rules where two hold at once.
-ghost use Rattle.std.specs.Prelude.{◌≡◌, ◌<◌, List, Option, IfOk, IfSome};
+ghost use Rattle.std.specs.Prelude.{◌≡◌, ◌<◌, ◌≤◌, List, Option, IfOk, IfSome};
 ghost use Rattle.vnode_tree.specs.Nodes.{Named, IsLive};
 ghost use Rattle.vnode_tree.specs.Walks.{IsFree};
 ghost use Rattle.file_calls.specs.Places.{IsLivePlace};
 
-use crate::{Caller, Place, find, find_node};
+use crate::{Caller, Place, find, find_node, make_node};
 use access_rule::Attrs;
 use acl_core::{Acl, Cred};
 use arrayvec::ArrayVec;
@@ -36,6 +36,7 @@ fn caller(rt: &impl Abort, tree: &Tree, uid: u32, active: Element) -> Caller
         },
         label: Subject::new(active, Element::Low, Element::High).expect(rt, "a subject"),
         directory: tree.root(),
+        umask: 0o022,
     }
 }
 
@@ -188,5 +189,83 @@ fn a_free_name_is_found_as_one(rt: HostRuntime) -> Result<(), Fail> {
         }
         None => assert!(rt; false, "a free name"),
     }
+    Ok(())
+}
+
+/// Makes a node of a mode at a path, for a caller.
+fn ask(
+    rt: &impl Abort,
+    tree: &mut Tree,
+    by: &Caller,
+    path: &[u8],
+    kind: Kind,
+    mode: u16,
+) -> Result<Node, Rule>
+    requires live { IsLive tree.old by.now.directory }
+    requires mode { mode ≤ 0o777 }
+    ensures { IfOk result (IsLive tree.new) }
+{
+    let place = find(tree, by, &path_text(rt, path))?;
+    match absent(place) {
+        Some((dir, name)) => make_node(tree, by, dir, &name, kind, mode),
+        None => Err(Rule::Exists),
+    }
+}
+
+#[test]
+fn a_new_node_is_its_makers(rt: HostRuntime) -> Result<(), Fail> {
+    let mut tree = tree(&rt, rt.alloc())?;
+    let user = caller(&rt, &tree, 1001, grade(10));
+    let file = ask(&rt, &mut tree, &user, b"/tmp/f", Kind::File, 0o666).expect(
+        &rt,
+        "no rule denies",
+    );
+    let attrs = tree.attrs(file);
+    assert_eq!(rt; (attrs.owner, attrs.group), (1001, 0));
+    assert_eq!(rt; attrs.element, grade(10));
+    assert_eq!(rt; attrs.list.mode_of(), 0o644);
+    assert!(rt; tree.default_list(file).is_none());
+    Ok(())
+}
+
+#[test]
+fn a_default_list_is_handed_down(rt: HostRuntime) -> Result<(), Fail> {
+    let mut tree = tree(&rt, rt.alloc())?;
+    let user = caller(&rt, &tree, 1001, grade(10));
+    let dir = ask(&rt, &mut tree, &user, b"/tmp/d", Kind::Dir, 0o777).expect(&rt, "no rule denies");
+    tree.set_default(dir, Some(Acl::minimal(0o776)));
+    let user = caller(&rt, &tree, 1001, grade(10));
+    // The umask, 022, plays no part; a directory takes the list too.
+    let file = ask(&rt, &mut tree, &user, b"/tmp/d/f", Kind::File, 0o666).expect(
+        &rt,
+        "no rule denies",
+    );
+    assert_eq!(rt; tree.attrs(file).list.mode_of(), 0o666);
+    assert!(rt; tree.default_list(file).is_none());
+    let user = caller(&rt, &tree, 1001, grade(10));
+    let below = ask(&rt, &mut tree, &user, b"/tmp/d/e", Kind::Dir, 0o700).expect(
+        &rt,
+        "no rule denies",
+    );
+    assert_eq!(rt; tree.attrs(below).list.mode_of(), 0o700);
+    assert_eq!(rt;
+        tree.default_list(below).map(|list| list.mode_of()),
+        Some(0o776)
+    );
+    Ok(())
+}
+
+#[test]
+fn the_label_denies_a_new_node_before_the_list(rt: HostRuntime) -> Result<(), Fail> {
+    let mut tree = tree(&rt, rt.alloc())?;
+    let user = caller(&rt, &tree, 1001, grade(10));
+    let by_label = ask(&rt, &mut tree, &user, b"/bin/x", Kind::File, 0o666);
+    assert_eq!(rt; by_label.err(), Some(Rule::LabelWrite));
+    let low = caller(&rt, &tree, 1001, Element::Low);
+    let by_list = ask(&rt, &mut tree, &low, b"/bin/x", Kind::File, 0o666);
+    assert_eq!(rt; by_list.err(), Some(Rule::List));
+    let superuser = caller(&rt, &tree, 0, Element::Low);
+    let made = ask(&rt, &mut tree, &superuser, b"/bin/x", Kind::File, 0o666);
+    assert_eq!(rt; made.err(), None);
     Ok(())
 }
