@@ -15,7 +15,7 @@ use std::test::Fail;
 use user_db::read_boot;
 
 /// The tree of the empty boot text.
-fn standard(alloc: Global) -> Result<Tree, Fail> {
+pub(crate) fn standard(alloc: Global) -> Result<Tree, Fail> {
     let boot = read_boot(alloc, b"")?;
     let tree = Tree::new(alloc, &boot)?;
     Ok(tree)
@@ -50,7 +50,7 @@ fn absent(end: End) -> Option<(Node, Name255)>
 }
 
 /// The node at a path, which is there.
-fn at(rt: &impl Abort, tree: &Tree, path: &str) -> Node
+pub(crate) fn at(rt: &impl Abort, tree: &Tree, path: &str) -> Node
     ensures { IsLive tree.now result }
 {
     let path = PathText::from_slice(path.as_bytes()).expect(rt, "a path of at most 1,024 bytes");
@@ -210,7 +210,12 @@ fn with_mode(mode: u16, is_dir: bool) -> Attrs
 }
 
 /// Makes a node at a path that is absent, where there is room.
-fn make(rt: &impl Abort, tree: &mut Tree, path: &[u8], kind: Kind) -> Result<(), TreeFull> {
+pub(crate) fn make(
+    rt: &impl Abort,
+    tree: &mut Tree,
+    path: &[u8],
+    kind: Kind,
+) -> Result<(), TreeFull> {
     let walk = walk(rt, tree, path);
     match absent(walk.end) {
         Some((dir, name)) => {
