@@ -1,8 +1,7 @@
 //! New nodes.
-ghost use Rattle.std.specs.Prelude.{◌≡◌, ◌≤◌, ◌++◌, ◌∷◌, [], ◌==◌, Some, None, option_map, option_copied, IfOk, OnOk, OnErr};
+ghost use Rattle.std.specs.Prelude.{◌≡◌, ◌≤◌, ◌++◌, ◌∷◌, [], None, option_copied, IfOk, OnOk, OnErr};
 ghost use Rattle.access_rule.specs.NewNodes.{new_list, new_default};
-ghost use Rattle.access_rule.specs.Tree.{is_dir};
-ghost use Rattle.vnode_tree.specs.Nodes.{IsLive, ChangesAt, count_of, named_at, path_of, record_of, with_node};
+ghost use Rattle.vnode_tree.specs.Nodes.{IsLive, ChangesAt, named_at, path_of, with_node};
 ghost use Rattle.vnode_tree.specs.Walks.{IsFree};
 ghost use Rattle.file_calls.specs.Makes.{made_node, denied_make, rule_of, named_as};
 

@@ -1,5 +1,5 @@
 //! Paths and the rules that deny them, with the order of the rules where two hold at once.
-ghost use Rattle.std.specs.Prelude.{◌≡◌, ◌<◌, ◌≤◌, List, Option, IfOk, IfSome};
+ghost use Rattle.std.specs.Prelude.{◌<◌, ◌≤◌, List, Option, IfOk, IfSome};
 ghost use Rattle.vnode_tree.specs.Nodes.{Named, IsLive};
 ghost use Rattle.vnode_tree.specs.Walks.{IsFree};
 ghost use Rattle.file_calls.specs.Places.{IsLivePlace};
