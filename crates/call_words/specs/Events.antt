@@ -1,5 +1,6 @@
 -- The conditions of events, and who can go on after one.
 use Rattle.std.specs.Prelude.{ℕ, ◌<◌, ◌≤◌, List}
+use Rattle.call_words.specs.Calls.{HasFitMode}
 use Rattle.call_words.specs.declared.limits.TheConstants.{SLOTS, LINES}
 use Rattle.call_words.specs.declared.text.TheConstants.{PIECE_BYTES}
 use Rattle.call_words.specs.declared.events.Event.{Event}
@@ -8,7 +9,7 @@ use Rattle.call_words.specs.declared.events.Wakes.{Wakes}
 
 -- the conditions of every use of an event
 abbrev pub MayBeUsed : Event → Type 0
-MayBeUsed (event.Call slot call) = slot < SLOTS
+MayBeUsed (event.Call slot call) = (slot < SLOTS) × HasFitMode call
 MayBeUsed (event.Byte line b) = line < LINES
 MayBeUsed (event.Take line max) = (line < LINES) × (1 ≤ max) × (max ≤ PIECE_BYTES)
 

@@ -3,12 +3,13 @@ ghost use Rattle.std.specs.Prelude.{◌≡◌, []};
 
 use crate::calls::Call;
 use crate::rules::Rule;
-use crate::text::Piece;
+use crate::text::{Piece, TextBuf};
 use arrayvec::ArrayVec;
 
 /// One step of the kernel, taken in one turn.
 ///
-/// Each use has these conditions: a slot is below 32, a line below 8, and `max` is 1 to 512.
+/// Each use has these conditions: a slot is below 32, a line below 8, `max` is 1 to 512, and a mode
+/// that the call names is at most octal 777.
 #[derive(Drop)]
 pub enum Event {
     /// The process of a slot asks a call.
@@ -48,6 +49,8 @@ pub enum Reply {
     Num(u32),
     /// The bytes that a read gives.
     Bytes(Piece),
+    /// What a call tells as a text: names, attributes, a list or a label.
+    Text(TextBuf),
     /// Refused, by the first rule that denies.
     Denied(Rule),
     /// The slot has no running process.
@@ -62,6 +65,7 @@ impl Reply {
         match self {
             Reply::Num(number) => Reply::Num(*number),
             Reply::Bytes(bytes) => Reply::Bytes(bytes.copy()),
+            Reply::Text(text) => Reply::Text(text.copy()),
             Reply::Denied(rule) => Reply::Denied(*rule),
             Reply::Gone => Reply::Gone,
         }

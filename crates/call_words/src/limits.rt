@@ -18,6 +18,12 @@ pub const INPUT_PLACES: usize = 1024;
 /// How many bytes the output queue of a line holds.
 pub const OUTPUT_BYTES: usize = 4096;
 
+/// How many nodes a file tree has at most, the root among them.
+pub const NODES: usize = 1024;
+
+/// How many bytes the contents of all files have at most.
+pub const FILE_SPACE: usize = 4_194_304;
+
 /// How many events a run has at most.
 pub const TRAIL_EVENTS: u32 = 262_144;
 

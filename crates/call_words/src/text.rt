@@ -11,6 +11,9 @@ pub const PIECE_BYTES: usize = 512;
 /// too long.
 pub const PATH_BYTES: usize = 1024;
 
+/// How many bytes a text has at most that a call answers.
+pub const TEXT_BYTES: usize = 4096;
+
 /// At most `N` bytes, in place.
 #[derive(Drop)]
 pub struct InPlace<const N: usize> {
@@ -22,6 +25,9 @@ pub type Piece = InPlace<PIECE_BYTES>;
 
 /// The path that a call names: at most 1,024 bytes.
 pub type PathText = InPlace<PATH_BYTES>;
+
+/// The text that a call answers: at most 4,096 bytes.
+pub type TextBuf = InPlace<TEXT_BYTES>;
 
 impl<const N: usize> Model for InPlace<N> {
     ghost use Rattle.std.specs.Prelude.{ℕ, ◌≤◌, List, length};

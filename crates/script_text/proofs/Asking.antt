@@ -1,126 +1,19 @@
 -- Lines are read by the grammar: what is read is said so, and what is said so is read.
-use Rattle.std.proofs.Common.{◌≡◌, ℕ, ◌<◌, Bool, true, false, not, eqb, leb, List, [], ◌∷◌, length, Option, Some, None, option_map, option_and_then, refl, sym, subst, arith, inl, inr}
+use Rattle.std.proofs.Common.{◌≡◌, ℕ, ◌<◌, Bool, true, false, not, eqb, leb, List, [], ◌∷◌, length, Some, None, option_map, option_and_then, refl, sym, arith, inl, inr}
 use Rattle.std.specs.Prelude.{codes}
 use Rattle.std.specs.Str.{bytes_eq}
 use Rattle.std.proofs.lemmas.Bool.{eqb-false, leb-true, le-leb, ne_eqb, not-true, false_from_ne_true}
-use Rattle.call_words.specs.declared.calls.Access.{Access}
-use Rattle.call_words.specs.declared.calls.OpenFlags.{OpenFlags}
 use Rattle.call_words.specs.declared.calls.Call.{Call}
-use Rattle.call_words.specs.declared.calls.Call.TheVariants.{Open, Close, Read, Write, Revoke}
 use Rattle.call_words.specs.declared.events.Event.{Event}
 use Rattle.call_words.specs.declared.events.Event.TheVariants as event
 use Rattle.script_text.specs.Words.{words, only_if, number_below, bytes_of_word}
-use Rattle.script_text.specs.Paths.{path_of}
-use Rattle.script_text.specs.Values.{slot_of, line_of, fd_of, max_of, taken_of, access_of, flags_of, mode_of, no_flags, default_mode}
-use Rattle.script_text.specs.Reading.{open_with, open_of, close_of, read_of, write_of, revoke_of, call_of, arrivals, in_of, take_of, slot_call_of, events_of_words, events_of_line}
-use Rattle.script_text.specs.Grammar.{SayAll, call_fields, Ask, asks_call, asks_take, asks_bytes, IsLine, flags, mode}
+use Rattle.script_text.specs.Values.{slot_of, line_of, taken_of}
+use Rattle.script_text.specs.Calls.{call_of}
+use Rattle.script_text.specs.Reading.{arrivals, in_of, take_of, slot_call_of, events_of_words, events_of_line}
+use Rattle.script_text.specs.Grammar.{Ask, asks_call, asks_take, asks_bytes, IsLine}
 use Rattle.script_text.proofs.Chosen.{chosen, stepped, mapped, same_text}
-
--- what is said of an open is said of the call that it is
-opened : (n p a : List ℕ) (more : List (List ℕ)) (x : List ℕ) (y : Access) (f : OpenFlags) (m : ℕ) (c : Call) → Open x y f m ≡ c
-    → SayAll (call_fields (Open x y f m)) (n ∷ p ∷ a ∷ more) → SayAll (call_fields c) (n ∷ p ∷ a ∷ more)
-opened n p a more x y f m c e h = subst (λ (c : Call). SayAll (call_fields c) (n ∷ p ∷ a ∷ more)) e h
-
--- the words that an open was read from
-open_with_said : (n p a : List ℕ) (F : Option OpenFlags) (M : Option ℕ) (c : Call) (more : List (List ℕ)) → n ≡ codes "open"
-    → ((f : OpenFlags) (m : ℕ) → F ≡ Some f → M ≡ Some m → SayAll (flags f ∷ mode m ∷ []) more)
-    → open_with p a F M ≡ Some c → SayAll (call_fields c) (n ∷ p ∷ a ∷ more)
-open_with_said n p a F M c more named said e =
-    let s = stepped (λ (x : List ℕ). option_and_then (λ (y : Access). option_and_then (λ (f : OpenFlags). option_map (λ (m : ℕ). Open x y f m) M) F) (access_of a)) (path_of p) c e in
-    let t = stepped (λ (y : Access). option_and_then (λ (f : OpenFlags). option_map (λ (m : ℕ). Open s.value y f m) M) F) (access_of a) c s.gives in
-    let u = stepped (λ (f : OpenFlags). option_map (λ (m : ℕ). Open s.value t.value f m) M) F c t.gives in
-    let v = mapped (λ (m : ℕ). Open s.value t.value u.value m) M c u.gives in
-    opened n p a more s.value t.value u.value v.value c v.gives (named, (s.was, (t.was, said u.value v.value u.was v.was)))
-
-open_said : (n : List ℕ) (ws : List (List ℕ)) (c : Call) → n ≡ codes "open" → open_of ws ≡ Some c → SayAll (call_fields c) (n ∷ ws)
-open_said n [] c named e = absurd cc
-open_said n (p ∷ []) c named e = absurd cc
-open_said n (p ∷ a ∷ []) c named e = open_with_said n p a (Some no_flags) (Some default_mode) c [] named (λ f m is_f is_m. (cc, (cc, tt))) e
-open_said n (p ∷ a ∷ f ∷ []) c named e = open_with_said n p a (flags_of f) (Some default_mode) c (f ∷ []) named (λ g m is_f is_m. (is_f, (cc, tt))) e
-open_said n (p ∷ a ∷ f ∷ m ∷ []) c named e = open_with_said n p a (flags_of f) (mode_of m) c (f ∷ m ∷ []) named (λ g k is_f is_m. (is_f, (is_m, tt))) e
-open_said n (p ∷ a ∷ f ∷ m ∷ w ∷ ws) c named e = absurd cc
-
-close_said : (n : List ℕ) (ws : List (List ℕ)) (c : Call) → n ≡ codes "close" → close_of ws ≡ Some c → SayAll (call_fields c) (n ∷ ws)
-close_said n [] c named e = absurd cc
-close_said n (w ∷ []) c named e =
-    let s = mapped (λ (x : ℕ). Close x) (fd_of w) c e in
-    subst (λ (c : Call). SayAll (call_fields c) (n ∷ w ∷ [])) s.gives (named, (s.was, tt))
-close_said n (w ∷ x ∷ ws) c named e = absurd cc
-
-read_said : (n : List ℕ) (ws : List (List ℕ)) (c : Call) → n ≡ codes "read" → read_of ws ≡ Some c → SayAll (call_fields c) (n ∷ ws)
-read_said n [] c named e = absurd cc
-read_said n (w ∷ []) c named e = absurd cc
-read_said n (w ∷ v ∷ []) c named e =
-    let s = stepped (λ (x : ℕ). option_map (λ (y : ℕ). Read x y) (max_of v)) (fd_of w) c e in
-    let t = mapped (λ (y : ℕ). Read s.value y) (max_of v) c s.gives in
-    subst (λ (c : Call). SayAll (call_fields c) (n ∷ w ∷ v ∷ [])) t.gives (named, (s.was, (t.was, tt)))
-read_said n (w ∷ v ∷ x ∷ ws) c named e = absurd cc
-
-write_said : (n : List ℕ) (ws : List (List ℕ)) (c : Call) → n ≡ codes "write" → write_of ws ≡ Some c → SayAll (call_fields c) (n ∷ ws)
-write_said n [] c named e = absurd cc
-write_said n (w ∷ []) c named e = absurd cc
-write_said n (w ∷ v ∷ []) c named e =
-    let s = stepped (λ (x : ℕ). option_map (λ (y : List ℕ). Write x y) (bytes_of_word v)) (fd_of w) c e in
-    let t = mapped (λ (y : List ℕ). Write s.value y) (bytes_of_word v) c s.gives in
-    subst (λ (c : Call). SayAll (call_fields c) (n ∷ w ∷ v ∷ [])) t.gives (named, (s.was, (t.was, tt)))
-write_said n (w ∷ v ∷ x ∷ ws) c named e = absurd cc
-
-revoke_said : (n : List ℕ) (ws : List (List ℕ)) (c : Call) → n ≡ codes "revoke" → revoke_of ws ≡ Some c → SayAll (call_fields c) (n ∷ ws)
-revoke_said n [] c named e = absurd cc
-revoke_said n (w ∷ []) c named e =
-    let s = mapped (λ (x : List ℕ). Revoke x) (path_of w) c e in
-    subst (λ (c : Call). SayAll (call_fields c) (n ∷ w ∷ [])) s.gives (named, (s.was, tt))
-revoke_said n (w ∷ x ∷ ws) c named e = absurd cc
-
--- a call that is read is said
-call_said : (ws : List (List ℕ)) (c : Call) → call_of ws ≡ Some c → SayAll (call_fields c) ws
-unfolding call_of
-call_said [] c e = absurd cc
-call_said (w ∷ ws) c e = elim (chosen (bytes_eq w (codes "open")) _ _ (Some c) e) [
-  | inl h ↦ open_said w ws c (same_text w (codes "open") h.0) h.1
-  | inr other ↦ elim (chosen (bytes_eq w (codes "close")) _ _ (Some c) other.1) [
-    | inl h ↦ close_said w ws c (same_text w (codes "close") h.0) h.1
-    | inr other ↦ elim (chosen (bytes_eq w (codes "read")) _ _ (Some c) other.1) [
-      | inl h ↦ read_said w ws c (same_text w (codes "read") h.0) h.1
-      | inr other ↦ elim (chosen (bytes_eq w (codes "write")) _ _ (Some c) other.1) [
-        | inl h ↦ write_said w ws c (same_text w (codes "write") h.0) h.1
-        | inr other ↦ elim (chosen (bytes_eq w (codes "revoke")) _ _ (Some c) other.1) [
-          | inl h ↦ revoke_said w ws c (same_text w (codes "revoke") h.0) h.1
-          | inr none ↦ absurd cc
-        ]
-      ]
-    ]
-  ]
-]
-
--- a call that is said is read
-call_is_read : (c : Call) (ws : List (List ℕ)) → SayAll (call_fields c) ws → call_of ws ≡ Some c
-unfolding call_of
-call_is_read (Open p a f m) [] h = absurd h.0
-call_is_read (Open p a f m) (n ∷ []) h = absurd h.1.0
-call_is_read (Open p a f m) (n ∷ p' ∷ []) h = absurd h.1.1.0
-call_is_read (Open p a f m) (n ∷ p' ∷ a' ∷ []) h = rw (h.0, h.1.0, h.1.1.0, h.1.1.1.0, h.1.1.1.1.0) refl
-call_is_read (Open p a f m) (n ∷ p' ∷ a' ∷ f' ∷ []) h = rw (h.0, h.1.0, h.1.1.0, h.1.1.1.0, h.1.1.1.1.0) refl
-call_is_read (Open p a f m) (n ∷ p' ∷ a' ∷ f' ∷ m' ∷ []) h = rw (h.0, h.1.0, h.1.1.0, h.1.1.1.0, h.1.1.1.1.0) refl
-call_is_read (Open p a f m) (n ∷ p' ∷ a' ∷ f' ∷ m' ∷ w ∷ ws) h = absurd h.1.1.1.1.1
-call_is_read (Close n) [] h = absurd h.0
-call_is_read (Close n) (w ∷ []) h = absurd h.1.0
-call_is_read (Close n) (w ∷ n' ∷ []) h = rw (h.0, h.1.0) refl
-call_is_read (Close n) (w ∷ n' ∷ x ∷ ws) h = absurd h.1.1
-call_is_read (Read n m) [] h = absurd h.0
-call_is_read (Read n m) (w ∷ []) h = absurd h.1.0
-call_is_read (Read n m) (w ∷ n' ∷ []) h = absurd h.1.1.0
-call_is_read (Read n m) (w ∷ n' ∷ m' ∷ []) h = rw (h.0, h.1.0, h.1.1.0) refl
-call_is_read (Read n m) (w ∷ n' ∷ m' ∷ x ∷ ws) h = absurd h.1.1.1
-call_is_read (Write n bs) [] h = absurd h.0
-call_is_read (Write n bs) (w ∷ []) h = absurd h.1.0
-call_is_read (Write n bs) (w ∷ n' ∷ []) h = absurd h.1.1.0
-call_is_read (Write n bs) (w ∷ n' ∷ bs' ∷ []) h = rw (h.0, h.1.0, h.1.1.0) refl
-call_is_read (Write n bs) (w ∷ n' ∷ bs' ∷ x ∷ ws) h = absurd h.1.1.1
-call_is_read (Revoke p) [] h = absurd h.0
-call_is_read (Revoke p) (w ∷ []) h = absurd h.1.0
-call_is_read (Revoke p) (w ∷ p' ∷ []) h = rw (h.0, h.1.0) refl
-call_is_read (Revoke p) (w ∷ p' ∷ x ∷ ws) h = absurd h.1.1
+use Rattle.script_text.proofs.CallsSaid.{call_said}
+use Rattle.script_text.proofs.CallsRead.{call_is_read}
 
 -- the value that passed a test
 kept : {A : Type 0} (test : Bool) (x y : A) → only_if test (Some x) ≡ Some y → (test ≡ true) × (x ≡ y)

@@ -1,40 +1,40 @@
--- The words of a line, one at a time.
-use Rattle.std.proofs.Common.{◌≡◌, ℕ, ◌+◌, ◌-◌, ◌≤◌, false, true, List, [], ◌∷◌, length, take, drop, Some, None, refl, sym, ap, ◌∙◌, arith, ltb, cond, ltb-true, ltb-false, length-drop}
+-- The parts of a text, one at a time.
+use Rattle.std.proofs.Common.{◌≡◌, ℕ, ◌+◌, ◌-◌, ◌≤◌, false, true, List, [], ◌∷◌, length, take, drop, Some, None, refl, sym, ap, ◌∙◌, arith, eqb, ltb, cond, ltb-true, ltb-false, length-drop}
 use Rattle.std.proofs.Math.Seq.{take-length}
 use Rattle.std.specs.Prelude.{position}
 use Rattle.std.specs.List.{slice_split, position_or_len}
 use Rattle.std.proofs.lemmas.List.{drop-drop}
 use Rattle.std.proofs.lemmas.List.Splits.{slice_split_none, slice_split_first}
 use Rattle.std.proofs.lemmas.List.Sums.{fails_before_first}
-use Rattle.script_text.specs.Words.{words, is_blank}
+use Rattle.script_text.specs.Words.{parted}
 
--- a line without a blank is one word
-pub words_one : (l : List ℕ) → position is_blank l ≡ None → words l ≡ l ∷ []
-unfolding words
-words_one l h =
-    let p = position_or_len is_blank l in
-    elim (ltb p (length l)) as (λ b. ltb p (length l) ≡ b → cond b (Some p) None ≡ None → slice_split is_blank l ≡ l ∷ []) [
+-- a text without the mark is one part
+pub parted_one : (m : ℕ) (l : List ℕ) → position (λ b. eqb b m) l ≡ None → parted m l ≡ l ∷ []
+unfolding parted
+parted_one m l h =
+    let p = position_or_len (λ b. eqb b m) l in
+    elim (ltb p (length l)) as (λ b. ltb p (length l) ≡ b → cond b (Some p) None ≡ None → slice_split (λ b. eqb b m) l ≡ l ∷ []) [
       | true ↦ λ test none. cc
       | false ↦ λ test none.
           let all : length l ≤ p = ltb-false p (length l) test in
-          slice_split_none is_blank l (λ k d below. fails_before_first is_blank l k d (omega arith))
+          slice_split_none (λ b. eqb b m) l (λ k d below. fails_before_first (λ b. eqb b m) l k d (omega arith))
     ] refl h
 
--- the first word stands before the first blank
-pub words_more : (l : List ℕ) (k : ℕ) → position is_blank l ≡ Some k → words l ≡ take k l ∷ words (drop (k + 1) l)
-unfolding words
-words_more l k h =
-    let p = position_or_len is_blank l in
-    elim (ltb p (length l)) as (λ b. ltb p (length l) ≡ b → cond b (Some p) None ≡ Some k → slice_split is_blank l ≡ take k l ∷ slice_split is_blank (drop (k + 1) l)) [
+-- the first part stands before the first mark
+pub parted_more : (m : ℕ) (l : List ℕ) (k : ℕ) → position (λ b. eqb b m) l ≡ Some k → parted m l ≡ take k l ∷ parted m (drop (k + 1) l)
+unfolding parted
+parted_more m l k h =
+    let p = position_or_len (λ b. eqb b m) l in
+    elim (ltb p (length l)) as (λ b. ltb p (length l) ≡ b → cond b (Some p) None ≡ Some k → slice_split (λ b. eqb b m) l ≡ take k l ∷ slice_split (λ b. eqb b m) (drop (k + 1) l)) [
       | true ↦ λ test some.
           let here : p ≡ k = cc in
-          slice_split_first is_blank l 0 (ltb-true p (length l) test) ∙ ap (λ at. take at l ∷ slice_split is_blank (drop (at + 1) l)) here
+          slice_split_first (λ b. eqb b m) l 0 (ltb-true p (length l) test) ∙ ap (λ at. take at l ∷ slice_split (λ b. eqb b m) (drop (at + 1) l)) here
       | false ↦ λ test some. cc
     ] refl h
 
--- what follows the blank after the first word
-pub words_cut : (l word others : List ℕ) (k : ℕ) → position is_blank l ≡ Some k → word ≡ take k l → others ≡ drop k l → words l ≡ word ∷ words (take (length others - 1) (drop 1 others))
-words_cut l word others k h w o =
+-- what follows the mark after the first part
+pub parted_cut : (m : ℕ) (l part others : List ℕ) (k : ℕ) → position (λ b. eqb b m) l ≡ Some k → part ≡ take k l → others ≡ drop k l → parted m l ≡ part ∷ parted m (take (length others - 1) (drop 1 others))
+parted_cut m l part others k h w o =
     let rest : take (length others - 1) (drop 1 others) ≡ drop (k + 1) l =
     ap (λ n. take n (drop 1 others)) (sym (length-drop 1 others)) ∙ take-length (drop 1 others) ∙ ap (drop 1) o ∙ drop-drop 1 k l in
-    words_more l k h ∙ ap (λ w. w ∷ words (drop (k + 1) l)) (sym w) ∙ ap (λ r. word ∷ words r) (sym rest)
+    parted_more m l k h ∙ ap (λ w. w ∷ parted m (drop (k + 1) l)) (sym w) ∙ ap (λ r. part ∷ parted m r) (sym rest)

@@ -4,5 +4,11 @@ pub mod Escapes
 pub mod Used
 pub mod Chosen
 pub mod Spelled
+pub mod NumberBack
+pub mod GroupsBack
 pub mod ReadBack
+pub mod Ids
+pub mod Fields
+pub mod CallsSaid
+pub mod CallsRead
 pub mod Asking

@@ -1,47 +1,31 @@
 -- The words that are printed are read as the values that they were printed of.
-use Rattle.std.proofs.Common.{◌≡◌, ℕ, zero, suc, ◌*◌, ◌/◌, ◌%◌, ◌^◌, ◌<◌, ◌≤◌, Bool, true, false, ◌&&◌, cond, eqb, ltb, List, [], ◌∷◌, ◌++◌, length, get_or, flat_map, Option, Some, None, Ok, refl, sym, ap, ◌∙◌, arith, rules}
+use Rattle.std.proofs.Common.{◌≡◌, ℕ, zero, suc, ◌*◌, ◌/◌, ◌%◌, ◌^◌, ◌<◌, ◌≤◌, Bool, true, false, cond, eqb, ltb, List, [], ◌∷◌, ◌++◌, length, get_or, flat_map, Option, Some, None, Ok, refl, sym, ap, ◌∙◌, arith, rules}
 use Rattle.std.specs.Prelude.{codes}
 use Rattle.std.specs.Char.{digit_value}
-use Rattle.std.specs.Fmt.{decimal, digits}
-use Rattle.std.specs.List.{list_all, AllByRecursion}
+use Rattle.std.specs.Fmt.{digits}
+use Rattle.std.specs.List.{AllByRecursion}
+use Rattle.std.specs.Result.{result_ok}
 use Rattle.std.specs.Str.{bytes_eq}
-use Rattle.std.specs.Str.Parse.{digits_value}
-use Rattle.std.proofs.lemmas.Bool.{le-ltb, lt-ltb, ne_eqb, eqb-true, false_from_ne_true, and_right, agree_below_at}
-use Rattle.std.proofs.lemmas.Fmt.{digits_decimal, digits_value-decimal, decimal_nonempty, first_decimal, decimal_digit}
-use Rattle.std.proofs.lemmas.Str.Parse.{IsNumeralModel, numerals_by_value}
+use Rattle.std.proofs.lemmas.Bool.{le-ltb, ne_eqb, eqb-true, false_from_ne_true, agree_below_at}
 use Rattle.hex.specs.Hex.{IsBytes, lower_digits, encode_with, encode_lower, decode_of}
 use Rattle.hex.proofs.HexLemmas.{decode_of-encode_lower, length-encode_with}
 use Rattle.call_words.specs.declared.calls.Access.{Access}
 use Rattle.call_words.specs.declared.calls.Access.TheVariants as access
 use Rattle.call_words.specs.declared.calls.OpenFlags.{OpenFlags}
-use Rattle.script_text.specs.Words.{is_digit, number_below, bytes_of_word, hex_word}
+use Rattle.acl_core.proofs.Whole.{read_again}
+use Rattle.label_core.proofs.TextLaws.{element_of-element_text, subject_of-subject_text}
+use Rattle.call_words.specs.declared.lists.WhichList.{WhichList}
+use Rattle.call_words.specs.declared.lists.WhichList.TheVariants as which
+use Rattle.script_text.specs.Rights.{which_of, which_word}
+use Rattle.script_text.specs.Words.{number_below, bytes_of_word, hex_word}
 use Rattle.script_text.specs.Paths.{is_plain, pair_value, escaped_byte, path_of, path_word}
 use Rattle.script_text.specs.Spelling.{plain, escaped, IsSpelled, by_parts}
 use Rattle.script_text.specs.Values.{line_of, mode_of, access_of, flags_of, line_word, mode_word, access_word, flags_word}
-use Rattle.script_text.specs.Grammar.{Field, Fits, Says, word_of, IsByte, name, slot, line, path, access, flags, mode, fd, max, taken, bytes}
+use Rattle.script_text.specs.Grammar.{Field, Fits, Says, word_of, IsByte, name, slot, line, path, access, flags, open_mode, mode, fd, max, taken, from, bytes, id, groups, which, entries, element, subject}
 use Rattle.script_text.proofs.Chosen.{same_text}
 use Rattle.script_text.proofs.Spelled.{written_is_read}
-
--- digits, by this crate's test
-ten_digits : IsNumeralModel (λ ds. list_all (is_digit 10) ds ≡ true) (digits_value 10)
-ten_digits = numerals_by_value _ (search rules)
-
--- a number has no leading zero
-no_zero_first : (n : ℕ) → n < 2 ^ 64 → (ltb 1 (length (decimal n)) && eqb (get_or (decimal n) 0 0) 48) ≡ false
-no_zero_first zero h = rw (decimal_digit 0 (omega arith)) refl
-no_zero_first (suc n) h =
-    let first = first_decimal (suc n) (omega arith) h in
-    and_right (ltb 1 (length (decimal (suc n)))) (eqb (get_or (decimal (suc n)) 0 0) 48) (ne_eqb _ 48 (λ e. omega (arith, first, e)))
-
-pub number_back : (limit n : ℕ) → n < limit → limit ≤ 2 ^ 64 → number_below 10 limit (decimal n) ≡ Some n
-unfolding number_below
-number_back limit n h most =
-    let fits : n < 2 ^ 64 = omega arith in
-    let some : eqb (length (decimal n)) 0 ≡ false = ne_eqb _ 0 (λ e. let more = decimal_nonempty n fits in omega (arith, more, e)) in
-    let all : list_all (is_digit 10) (decimal n) ≡ true = digits_decimal ten_digits n fits in
-    let value : digits_value 10 (decimal n) ≡ n = digits_value-decimal ten_digits n fits in
-    let below : ltb n limit ≡ true = lt-ltb n limit h in
-    rw (some, all, no_zero_first n fits, value, below) refl
+use Rattle.script_text.proofs.NumberBack.{number_back}
+use Rattle.script_text.proofs.GroupsBack.{groups_back}
 
 line_back : (n : ℕ) → n < 8 → line_of (line_word n) ≡ Some n
 line_back n h = number_back 8 n h (omega arith)
@@ -93,6 +77,10 @@ flags_back f =
     (at (λ x. AtBoth (λ t. AtBoth (λ a. AtBoth (λ n. AtBoth (λ e. Back f.create x t a n e)))))
     (at (λ c. AtBoth (λ x. AtBoth (λ t. AtBoth (λ a. AtBoth (λ n. AtBoth (λ e. Back c x t a n e)))))) all_back f.create)
     f.exclusive) f.truncate) f.append) f.nonblock) f.on_exec
+
+which_back : (l : WhichList) → which_of (which_word l) ≡ Some l
+which_back which.Access = refl
+which_back which.Default = refl
 
 -- bytes, as the crate hex says it
 all_bytes : (bs : List ℕ) → AllByRecursion IsByte bs → IsBytes bs
@@ -168,8 +156,16 @@ word_back (line n) h = line_back n h
 word_back (path p) h = path_back p h.0 h.1
 word_back (access a) h = access_back a
 word_back (flags f) h = flags_back f
+word_back (open_mode m) h = mode_back m h
 word_back (mode m) h = mode_back m h
 word_back (fd n) h = number_back (2 ^ 8) n h (omega arith)
 word_back (max n) h = number_back (2 ^ 16) n h (omega arith)
 word_back (taken n) h = number_back 513 n (omega arith) (omega arith)
+word_back (from n) h = number_back (2 ^ 16) n h (omega arith)
 word_back (bytes bs) h = bytes_back bs h.0 h.1
+word_back (id n) h = number_back (2 ^ 32) n h (omega arith)
+word_back (groups ns) h = groups_back ns h.0 h.1
+word_back (which l) h = which_back l
+word_back (entries es) h = ap result_ok (read_again es h)
+word_back (element e) h = ap result_ok (element_of-element_text e h)
+word_back (subject s) h = ap result_ok (subject_of-subject_text s h)

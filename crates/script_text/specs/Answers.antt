@@ -5,15 +5,17 @@ use Rattle.call_words.specs.Rules.{errno_of, rule_word, errno_word}
 use Rattle.call_words.specs.declared.events.Event.{Event}
 use Rattle.call_words.specs.declared.events.Event.TheVariants as event
 use Rattle.call_words.specs.declared.events.Reply.{Reply}
-use Rattle.call_words.specs.declared.events.Reply.TheVariants.{Num, Bytes, Denied, Gone}
+use Rattle.call_words.specs.declared.events.Reply.TheVariants.{Num, Bytes, Text, Denied, Gone}
 use Rattle.call_words.specs.declared.events.Decision.{Decision}
 use Rattle.call_words.specs.declared.events.Decision.TheVariants.{Answer, Taken, Noted}
 use Rattle.call_words.specs.Events.{WakeList}
 use Rattle.script_text.specs.Words.{hex_word}
+use Rattle.script_text.specs.Paths.{text_word}
 
 abbrev pub reply_text : Reply → List ℕ
 reply_text (Num n) = codes "ok " ++ decimal n
 reply_text (Bytes bs) = codes "bytes " ++ hex_word bs
+reply_text (Text bs) = codes "text " ++ text_word bs
 reply_text (Denied rule) = codes "err " ++ errno_word (errno_of rule) ++ codes " " ++ rule_word rule
 reply_text Gone = codes "gone"
 

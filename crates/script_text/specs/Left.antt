@@ -1,11 +1,11 @@
--- The words of what is left of a line.
+-- The words of what is left of a line, or of another text that is parted by a byte.
 use Rattle.std.specs.Prelude.{ℕ, List, [], ◌∷◌, Option, Some, None}
-use Rattle.script_text.specs.Words.{words}
+use Rattle.script_text.specs.Words.{parted}
 
 -- none where nothing is left, not even an empty word
-abbrev pub words_after : Option (List ℕ) → List (List ℕ)
-words_after None = []
-words_after (Some left) = words left
+abbrev pub parts_after : ℕ → Option (List ℕ) → List (List ℕ)
+parts_after mark None = []
+parts_after mark (Some left) = parted mark left
 
 -- the word, where there is one alone
 abbrev pub only_word : List (List ℕ) → Option (List ℕ)
@@ -16,3 +16,8 @@ only_word _ = None
 abbrev pub both_words : List (List ℕ) → Option (List ℕ × List ℕ)
 both_words (v ∷ w ∷ []) = Some (v, w)
 both_words _ = None
+
+-- the words, where there are three
+abbrev pub three_words : List (List ℕ) → Option (List ℕ × List ℕ × List ℕ)
+three_words (u ∷ v ∷ w ∷ []) = Some (u, v, w)
+three_words _ = None

@@ -2,6 +2,8 @@ pub mod Words
 pub mod Paths
 pub mod Spelling
 pub mod Values
+pub mod Rights
+pub mod Calls
 pub mod Reading
 pub mod Grammar
 pub mod Left

@@ -1,6 +1,6 @@
--- The words of paths. A byte outside 33 to 126, and the percent sign, are written as a percent
--- sign and two hex digits, in either case; no other byte is written so. One percent sign alone is
--- the empty path.
+-- The words of paths, and of the texts that calls answer. A byte outside 33 to 126, and the percent
+-- sign, are written as a percent sign and two hex digits, in either case; no other byte is written
+-- so. One percent sign alone is the empty path, and a dash the empty text.
 use Rattle.std.specs.Prelude.{ℕ, ◌+◌, ◌*◌, Bool, not, ◌&&◌, ◌==◌, List, [], ◌∷◌, length, flat_map, Option, Some, None, nat_lt, nat_le, if◌then◌else◌, codes, option_map, option_and_then}
 use Rattle.std.specs.Char.{digit_value}
 use Rattle.std.specs.Str.{bytes_eq, byte}
@@ -56,3 +56,7 @@ escaped_byte b = if is_plain b then b ∷ [] else byte "%" ∷ encode_lower (b �
 -- the word that is printed of a path
 unfoldable pub path_word : List ℕ → List ℕ
 path_word path = if length path == 0 then codes "%" else flat_map escaped_byte path
+
+-- the word that is printed of a text
+unfoldable pub text_word : List ℕ → List ℕ
+text_word text = if length text == 0 then codes "-" else flat_map escaped_byte text

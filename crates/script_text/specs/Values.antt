@@ -30,6 +30,10 @@ max_of w = number_below 10 (2 ^ 16) w
 abbrev pub taken_of : List ℕ → Option ℕ
 taken_of w = number_below 10 (PIECE_BYTES + 1) w
 
+-- how many names a listing passes over fits two bytes
+abbrev pub from_of : List ℕ → Option ℕ
+from_of w = number_below 10 (2 ^ 16) w
+
 -- a mode (chmod(2)) is octal, up to 777
 abbrev pub mode_of : List ℕ → Option ℕ
 mode_of w = number_below 8 (8 ^ 3) w

@@ -7,12 +7,13 @@ use Rattle.std.specs.Result.{result_ok}
 use Rattle.hex.specs.Hex.{decode_of, encode_lower}
 use Rattle.call_words.specs.declared.text.TheConstants.{PIECE_BYTES}
 
-abbrev pub is_blank : ℕ → Bool
-is_blank b = b == byte " "
+-- the parts of a text round each place of a byte
+unfoldable pub parted : ℕ → List ℕ → List (List ℕ)
+parted mark text = slice_split (λ b. b == mark) text
 
 -- words are parted by one blank
-unfoldable pub words : List ℕ → List (List ℕ)
-words line = slice_split is_blank line
+abbrev pub words : List ℕ → List (List ℕ)
+words line = parted (byte " ") line
 
 -- the value, where a condition holds
 abbrev pub only_if : {X : Type 0} → Bool → Option X → Option X

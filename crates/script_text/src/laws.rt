@@ -17,7 +17,7 @@ pub fn paths_are_read_as_spelled()
 {}
 
 /// The word that is printed of a field is read as its value: numbers in decimal and octal, lines,
-/// paths, accesses, flags and bytes.
+/// paths, accesses, flags, bytes, groups, access lists and labels.
 pub fn words_are_read_back()
     ensures { (field : Field) → Fits field → Says field (word_of field) }
 {}

@@ -1,16 +1,18 @@
 //! The text of scripts: event lines to events, and answers to lines.
 //!
 //! `specs/` has the grammar of event lines: `Grammar` says for each event which words its line
-//! has, and for each kind of word which values it spells; `Reading` computes the events of a
-//! line, and the laws join the two. `Answers` has the answer lines.
+//! has, and for each kind of word which values it spells; `Calls` and `Reading` compute the call of
+//! some words and the events of a line, and the laws join the two. `Answers` has the answer lines.
 #![tactic(auto)]
 
+mod calls;
 mod events;
 mod laws;
 mod numbers;
 mod paths;
 mod print;
 mod read;
+mod rights;
 #[cfg(test)]
 mod tests;
 mod values;

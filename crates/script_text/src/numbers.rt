@@ -66,6 +66,17 @@ pub fn read_number(word: &[u8], radix: u8, limit: u32) -> Option<u32>
     if number < limit { Some(number) } else { None }
 }
 
+/// The number of 32 bits that a word writes in decimal, without a sign or a leading zero.
+#[tactic(auto, unfolding(crate::specs::Words::number_below))]
+pub fn read_u32(word: &[u8]) -> Option<u32>
+    ensures { result ≡ number_below 10 (2 ^ 32) word.now }
+{
+    if !is_number(word, DECIMAL) {
+        return None;
+    }
+    read_digits(word, DECIMAL)
+}
+
 /// The bytes that pairs of hex digits write, in either case. `room` has a place for each.
 fn read_pairs(digits: &[u8], room: &mut [u8]) -> Option<Piece>
     requires places { length room.old ≡ length digits.now / 2 }

@@ -1,4 +1,4 @@
-//! The words of paths.
+//! The words of paths, and which bytes a word writes as themselves.
 ghost use Rattle.std.specs.Prelude.{◌≡◌, ℕ, ◌<◌, List, [], ◌∷◌, length, MatchOption, IfSome, None};
 ghost use Rattle.script_text.specs.Paths.{is_plain, escape_value, then_bytes, unescaped, if_short, path_of};
 
@@ -8,7 +8,7 @@ use call_words::{PATH_BYTES, PathText};
 const PERCENT: u8 = b'%';
 
 /// Whether a byte is written as itself.
-fn is_plain(byte: u8) -> bool
+pub fn is_plain(byte: u8) -> bool
     ensures { result ≡ is_plain byte }
 {
     (33..=126).contains(&byte) && byte != PERCENT

@@ -3,16 +3,24 @@ ghost use Rattle.std.specs.Prelude.{◌≡◌, ℕ, ◌+◌, ◌-◌, ◌*◌, �
 ghost use Rattle.std.specs.Fmt.{decimal};
 ghost use Rattle.hex.specs.Hex.{encode_lower};
 ghost use Rattle.arrayvec.specs.ArrayVec.{array_vec_len};
-ghost use Rattle.call_words.specs.declared.text.TheConstants.{PIECE_BYTES};
+ghost use Rattle.call_words.specs.declared.text.TheConstants.{PIECE_BYTES, TEXT_BYTES};
 ghost use Rattle.call_words.specs.Events.{listed};
 ghost use Rattle.script_text.specs.Words.{hex_word};
+ghost use Rattle.script_text.specs.Paths.{escaped_byte, text_word};
 ghost use Rattle.script_text.specs.Answers.{reply_text, decision_text, asker_text, wake_text, answer_line};
 
+use crate::paths::is_plain;
 use arrayvec::ArrayVec;
-use call_words::{Decision, Event, PIECE_BYTES, Reply, Wakes};
+use call_words::{Decision, Event, PIECE_BYTES, Reply, TEXT_BYTES, Wakes};
 
 /// How many bytes an answer line has at most.
 pub const ANSWER_BYTES: usize = 16_384;
+
+/// How many bytes the word of a text has at most: three for each of its own.
+const TEXT_ROOM: usize = 3 * TEXT_BYTES;
+
+/// How many bytes a decision has at most in a line: the longest is `text` and a text.
+const DECISION_ROOM: usize = 5 + TEXT_ROOM;
 
 /// An answer line, in place.
 pub type AnswerLine = ArrayVec<u8, ANSWER_BYTES>;
@@ -62,10 +70,41 @@ fn push_hex(out: &mut AnswerLine, bytes: &[u8])
     push_pairs(out, bytes, &mut room[..2 * bytes.len()]);
 }
 
+/// A byte as itself, or as a percent sign and two hex digits.
+fn push_escaped(out: &mut AnswerLine, byte: u8)
+    requires { array_vec_len out.old + 3 ≤ ANSWER_BYTES }
+    ensures bytes { out.new.items ≡ out.old.items ++ escaped_byte byte }
+    ensures len { array_vec_len out.new ≤ array_vec_len out.old + 3 }
+{
+    if is_plain(byte) {
+        push_bytes(out, &[byte]);
+        return;
+    }
+    push_bytes(out, b"%");
+    push_pairs(out, &[byte], &mut [0; 2]);
+}
+
+/// The bytes of a text of at most 4,096, or a dash for none.
+#[tactic(auto, unfolding(crate::specs::Paths::text_word))]
+fn push_text(out: &mut AnswerLine, text: &[u8])
+    requires most { length text.now ≤ TEXT_BYTES }
+    requires fits { array_vec_len out.old + TEXT_ROOM ≤ ANSWER_BYTES }
+    ensures bytes { out.new.items ≡ out.old.items ++ text_word text.now }
+    ensures len { array_vec_len out.new ≤ array_vec_len out.old + TEXT_ROOM }
+{
+    if text.is_empty() {
+        push_bytes(out, b"-");
+        return;
+    }
+    for byte in text {
+        push_escaped(out, *byte);
+    }
+}
+
 fn push_reply(out: &mut AnswerLine, reply: &Reply)
-    requires { array_vec_len out.old + 1100 ≤ ANSWER_BYTES }
+    requires { array_vec_len out.old + DECISION_ROOM ≤ ANSWER_BYTES }
     ensures bytes { out.new.items ≡ out.old.items ++ reply_text reply.now }
-    ensures len { array_vec_len out.new ≤ array_vec_len out.old + 1100 }
+    ensures len { array_vec_len out.new ≤ array_vec_len out.old + DECISION_ROOM }
 {
     match reply {
         Reply::Num(number) => {
@@ -75,6 +114,10 @@ fn push_reply(out: &mut AnswerLine, reply: &Reply)
         Reply::Bytes(bytes) => {
             push_bytes(out, b"bytes ");
             push_hex(out, bytes.as_slice());
+        }
+        Reply::Text(text) => {
+            push_bytes(out, b"text ");
+            push_text(out, text.as_slice());
         }
         Reply::Denied(rule) => {
             push_bytes(out, b"err ");
@@ -87,9 +130,9 @@ fn push_reply(out: &mut AnswerLine, reply: &Reply)
 }
 
 fn push_decision(out: &mut AnswerLine, decision: &Decision)
-    requires { array_vec_len out.old + 1100 ≤ ANSWER_BYTES }
+    requires { array_vec_len out.old + DECISION_ROOM ≤ ANSWER_BYTES }
     ensures bytes { out.new.items ≡ out.old.items ++ decision_text decision.now }
-    ensures len { array_vec_len out.new ≤ array_vec_len out.old + 1100 }
+    ensures len { array_vec_len out.new ≤ array_vec_len out.old + DECISION_ROOM }
 {
     match decision {
         Decision::Answer(reply) => push_reply(out, reply),

@@ -3,102 +3,14 @@ ghost use Rattle.std.specs.Prelude.{◌≡◌, ℕ, ◌<◌, ◌≤◌, List, []
 ghost use Rattle.call_words.specs.declared.text.TheConstants.{PIECE_BYTES};
 ghost use Rattle.call_words.specs.Events.{MayBeUsed};
 ghost use Rattle.script_text.specs.Words.{words as words_of};
-ghost use Rattle.script_text.specs.Reading.{open_of, close_of, read_of, write_of, revoke_of, call_of, in_of, take_of, slot_call_of, events_of_words, events_of_line};
+ghost use Rattle.script_text.specs.Reading.{in_of, take_of, slot_call_of, events_of_words, events_of_line};
 
+use crate::calls::read_call;
 use crate::events::Events;
 use crate::numbers::read_bytes;
-use crate::paths::read_path;
-use crate::values::{
-    DEFAULT_MODE, read_access, read_fd, read_flags, read_line, read_max, read_mode, read_slot,
-    read_taken,
-};
-use crate::words::{Words, both, only};
-use call_words::{Call, Event, OpenFlags, SCRIPT_LINE_BYTES};
-
-/// `open PATH ACCESS FLAGS MODE`, where FLAGS and MODE may be absent from the right.
-fn read_open(words: &mut Words) -> Option<Call>
-    ensures { result ≡ open_of words.old }
-{
-    let path = words.next()?;
-    let access = words.next()?;
-    let flags = match words.next() {
-        Some(word) => read_flags(word)?,
-        None => OpenFlags::default(),
-    };
-    let mode = match words.next() {
-        Some(word) => read_mode(word)?,
-        None => DEFAULT_MODE,
-    };
-    if words.next().is_some() {
-        return None;
-    }
-    Some(Call::Open {
-        path: read_path(path)?,
-        access: read_access(access)?,
-        flags,
-        mode,
-    })
-}
-
-/// `close FD`
-fn read_close(words: &mut Words) -> Option<Call>
-    ensures { result ≡ close_of words.old }
-{
-    let fd = read_fd(only(words)?)?;
-    Some(Call::Close { fd })
-}
-
-/// `read FD MAX`
-fn read_read(words: &mut Words) -> Option<Call>
-    ensures { result ≡ read_of words.old }
-{
-    let (fd, max) = both(words)?;
-    let fd = read_fd(fd)?;
-    let max = read_max(max)?;
-    Some(Call::Read { fd, max })
-}
-
-/// `write FD HEX`
-fn read_write(words: &mut Words) -> Option<Call>
-    ensures { result ≡ write_of words.old }
-{
-    let (fd, bytes) = both(words)?;
-    let fd = read_fd(fd)?;
-    let bytes = read_bytes(bytes)?;
-    Some(Call::Write { fd, bytes })
-}
-
-/// `revoke PATH`
-fn read_revoke(words: &mut Words) -> Option<Call>
-    ensures { result ≡ revoke_of words.old }
-{
-    let path = read_path(only(words)?)?;
-    Some(Call::Revoke { path })
-}
-
-/// A call: its name and its words.
-#[tactic(auto, unfolding(crate::specs::Reading::call_of))]
-fn read_call(words: &mut Words) -> Option<Call>
-    ensures { result ≡ call_of words.old }
-{
-    let name = words.next()?;
-    if name == b"open".as_slice() {
-        return read_open(words);
-    }
-    if name == b"close".as_slice() {
-        return read_close(words);
-    }
-    if name == b"read".as_slice() {
-        return read_read(words);
-    }
-    if name == b"write".as_slice() {
-        return read_write(words);
-    }
-    if name == b"revoke".as_slice() {
-        return read_revoke(words);
-    }
-    None
-}
+use crate::values::{read_line, read_slot, read_taken};
+use crate::words::{Words, both};
+use call_words::{Event, SCRIPT_LINE_BYTES};
 
 /// `in ttyN HEX`
 fn read_in(words: &mut Words) -> Option<Events>

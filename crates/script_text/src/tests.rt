@@ -3,7 +3,12 @@ use crate::{
     AnswerLine, Events, one_grammar, paths_are_read_as_spelled, print_answer, read_event_line,
     words_are_read_back,
 };
-use call_words::{Call, Decision, Event, OpenFlags, Piece, Reply, Rule, Wakes};
+use acl_core::print_entries;
+use arrayvec::ArrayVec;
+use call_words::{
+    Call, Decision, Event, OpenFlags, PathText, Piece, Reply, Rule, TextBuf, Wakes, WhichList,
+};
+use label_core::{print_element, print_subject};
 use std::alloc::Global;
 use std::process::Abort;
 use std::test::Fail;
@@ -81,6 +86,50 @@ const LINES: &str = "\
 5 write 0  -> bad\n\
 5 write 0 -> bad\n\
 5 write 0 61 62 -> bad\n\
+0 chdir /home/a -> 0 chdir /home/a\n\
+0 chdir -> bad\n\
+0 mkdir /tmp/a 755 -> 0 mkdir /tmp/a 755\n\
+0 mkdir /tmp/a -> bad\n\
+0 mkdir /tmp/a 1000 -> bad\n\
+0 rmdir %20 -> 0 rmdir <20>\n\
+0 rmdir a b -> bad\n\
+0 unlink .. -> 0 unlink ..\n\
+0 unlink -> bad\n\
+0 list / 0 -> 0 list / 0\n\
+0 list % 65535 -> 0 list  65535\n\
+0 list / 65536 -> bad\n\
+0 list / -> bad\n\
+0 info /dev/tty -> 0 info /dev/tty\n\
+0 info / 0 -> bad\n\
+0 chmod a 644 -> 0 chmod a 644\n\
+0 chmod a 0644 -> bad\n\
+0 chmod a -> bad\n\
+0 chown a 0 4294967295 -> 0 chown a 0 4294967295\n\
+0 chown a 0 4294967296 -> bad\n\
+0 chown a 1001 -> bad\n\
+0 setacl a access user:7:rwx,other::---,other::r-- -> 0 setacl a access user:7:rwx,other::---,other::r--\n\
+0 setacl a default - -> 0 setacl a default -\n\
+0 setacl a Access - -> bad\n\
+0 setacl a access user:7 -> bad\n\
+0 setacl a - -> bad\n\
+0 getacl a default -> 0 getacl a default\n\
+0 getacl a -> bad\n\
+0 setlabel a mls/10:3+2 -> 0 setlabel a mls/10:2+3\n\
+0 setlabel a mls/eq -> 0 setlabel a mls/equal\n\
+0 setlabel a 10 -> bad\n\
+0 getlabel a -> 0 getlabel a\n\
+0 setproclabel mls/10(low-20:2) -> 0 setproclabel mls/10(low-20:2)\n\
+0 setproclabel mls/10(high-low) -> bad\n\
+0 ident -> 0 ident\n\
+0 ident 0 -> bad\n\
+0 setcred 1 2 - -> 0 setcred 1 2 []\n\
+0 setcred 1 2 7+0+7 -> 0 setcred 1 2 [7, 0, 7]\n\
+0 setcred 1 2 7+ -> bad\n\
+0 setcred 1 2 7+07 -> bad\n\
+0 setcred 1 2  -> bad\n\
+0 setcred 1 2 -> bad\n\
+0 umask 22 -> 0 umask 22\n\
+0 umask 1000 -> bad\n\
 9 revoke /dev/tty0 -> 9 revoke /dev/tty0\n\
 9 revoke -> bad\n\
 9 revoke a b -> bad\n\
@@ -143,6 +192,12 @@ fn shown_flags(alloc: Global, flags: OpenFlags) -> Result<String, Fail> {
     Ok(text)
 }
 
+/// The name of a call, its path, and what follows it.
+fn shown_path(alloc: Global, name: &str, path: &PathText, rest: &str) -> Result<String, Fail> {
+    let path = shown_bytes(alloc, path.as_slice())?;
+    Ok(format!(in alloc; "{name} {path}{rest}")?)
+}
+
 fn shown_call(alloc: Global, call: &Call) -> Result<String, Fail> {
     let text = match call {
         Call::Open {
@@ -151,9 +206,9 @@ fn shown_call(alloc: Global, call: &Call) -> Result<String, Fail> {
             flags,
             mode,
         } => {
-            let path = shown_bytes(alloc, path.as_slice())?;
             let flags = shown_flags(alloc, *flags)?;
-            format!(in alloc; "open {path} {access:?} {flags} {mode:o}")?
+            let rest = format!(in alloc; " {access:?} {flags} {mode:o}")?;
+            shown_path(alloc, "open", path, rest.as_str())?
         }
         Call::Close { fd } => format!(in alloc; "close {fd}")?,
         Call::Read { fd, max } => format!(in alloc; "read {fd} {max}")?,
@@ -161,10 +216,74 @@ fn shown_call(alloc: Global, call: &Call) -> Result<String, Fail> {
             let bytes = shown_bytes(alloc, bytes.as_slice())?;
             format!(in alloc; "write {fd} {bytes}")?
         }
-        Call::Revoke { path } => {
-            let path = shown_bytes(alloc, path.as_slice())?;
-            format!(in alloc; "revoke {path}")?
+        Call::Chdir { path } => shown_path(alloc, "chdir", path, "")?,
+        Call::Mkdir { path, mode } => {
+            let mode = format!(in alloc; " {mode:o}")?;
+            shown_path(alloc, "mkdir", path, mode.as_str())?
         }
+        Call::Rmdir { path } => shown_path(alloc, "rmdir", path, "")?,
+        Call::Unlink { path } => shown_path(alloc, "unlink", path, "")?,
+        Call::List { path, from } => {
+            let from = format!(in alloc; " {from}")?;
+            shown_path(alloc, "list", path, from.as_str())?
+        }
+        Call::Info { path } => shown_path(alloc, "info", path, "")?,
+        Call::Revoke { path } => shown_path(alloc, "revoke", path, "")?,
+        _ => shown_rights(alloc, call)?,
+    };
+    Ok(text)
+}
+
+fn shown_which(which: WhichList) -> &'static str {
+    match which {
+        WhichList::Access => "access",
+        WhichList::Default => "default",
+    }
+}
+
+/// A call on a mode, an owner, a list or a label, or on what the caller is.
+fn shown_rights(alloc: Global, call: &Call) -> Result<String, Fail> {
+    let mut word = ArrayVec::new();
+    let text = match call {
+        Call::Chmod { path, mode } => {
+            let mode = format!(in alloc; " {mode:o}")?;
+            shown_path(alloc, "chmod", path, mode.as_str())?
+        }
+        Call::Chown { path, uid, gid } => {
+            let owner = format!(in alloc; " {uid} {gid}")?;
+            shown_path(alloc, "chown", path, owner.as_str())?
+        }
+        Call::SetAcl { path, which, list } => {
+            print_entries(list.as_slice(), &mut word);
+            let which = shown_which(*which);
+            let list = shown_bytes(alloc, word.as_slice())?;
+            let rest = format!(in alloc; " {which} {list}")?;
+            shown_path(alloc, "setacl", path, rest.as_str())?
+        }
+        Call::GetAcl { path, which } => {
+            let which = shown_which(*which);
+            let rest = format!(in alloc; " {which}")?;
+            shown_path(alloc, "getacl", path, rest.as_str())?
+        }
+        Call::SetLabel { path, element } => {
+            print_element(element, &mut word);
+            let label = shown_bytes(alloc, word.as_slice())?;
+            let rest = format!(in alloc; " {label}")?;
+            shown_path(alloc, "setlabel", path, rest.as_str())?
+        }
+        Call::GetLabel { path } => shown_path(alloc, "getlabel", path, "")?,
+        Call::SetProcLabel { subject } => {
+            print_subject(subject, &mut word);
+            let label = shown_bytes(alloc, word.as_slice())?;
+            format!(in alloc; "setproclabel {label}")?
+        }
+        Call::Ident => "ident".to_string(alloc)?,
+        Call::SetCred { cred } => {
+            let (uid, gid, groups) = (cred.uid, cred.gid, cred.groups.as_slice());
+            format!(in alloc; "setcred {uid} {gid} {groups:?}")?
+        }
+        Call::Umask { mode } => format!(in alloc; "umask {mode:o}")?,
+        _ => return Err("another call".into()),
     };
     Ok(text)
 }
@@ -201,7 +320,7 @@ fn shown(alloc: Global, events: &Option<Events>) -> Result<String, Fail> {
 
 #[test]
 fn lines_are_read(rt: HostRuntime) -> Result<(), Fail> {
-    assert_eq!(rt; LINES.split_terminator('\n').count(), 100);
+    assert_eq!(rt; LINES.split_terminator('\n').count(), 144);
     for row in LINES.split_terminator('\n') {
         let (line, want) = row.split_once(" -> ").ok_or("no row")?;
         let events = read_event_line(line.as_bytes());
@@ -238,6 +357,10 @@ fn longest_words(rt: HostRuntime) -> Result<(), Fail> {
         ("0 write 0 ", "6a", 513, "", None),
         ("in tty7 ", "6a", 512, "", Some(512)),
         ("in tty7 ", "6a", 513, "", None),
+        ("0 setcred 1 2 0", "+0", 15, "", Some(1)),
+        ("0 setcred 1 2 0", "+0", 16, "", None),
+        ("0 setacl a access mask::r--", ",mask::r--", 63, "", Some(1)),
+        ("0 setacl a access mask::r--", ",mask::r--", 64, "", None),
         ("0 close ", "1", 4088, "", None),
         ("0 close ", "1", 4089, "", None),
     ] {
@@ -276,6 +399,23 @@ fn answers_are_printed(rt: HostRuntime) {
     answer(&rt, &call, &num, &[0, 31], "31 ok 4294967295 wake 0 31\n");
     let read = Decision::Answer(Reply::Bytes(bytes()));
     answer(&rt, &call, &read, &[], "31 bytes 6af0\n");
+    for (text, printed) in [
+        (b"".as_slice(), "31 text -\n"),
+        (b"-".as_slice(), "31 text -\n"),
+        (
+            b"!~/a b%\x7f\n\xff".as_slice(),
+            "31 text !~/a%20b%25%7f%0a%ff\n",
+        ),
+    ] {
+        let text = TextBuf::from_slice(text).expect(&rt, "a text");
+        answer(
+            &rt,
+            &call,
+            &Decision::Answer(Reply::Text(text)),
+            &[],
+            printed,
+        );
+    }
     let denied = Decision::Answer(Reply::Denied(Rule::NotReady));
     answer(&rt, &call, &denied, &[], "31 err EAGAIN not-ready\n");
     answer(&rt, &call, &Decision::Answer(Reply::Gone), &[], "31 gone\n");

@@ -1,12 +1,14 @@
 //! The value of a word, for each kind of word.
 ghost use Rattle.std.specs.Prelude.{◌≡◌, ◌==◌, ℕ, ◌+◌, ◌*◌, ◌<◌, ◌≤◌, ◌^◌, List, length, count_by, nat_le, IfSome};
 ghost use Rattle.std.specs.List.{list_all};
+ghost use Rattle.acl_core.specs.declared.mode.TheConstants.{MODE_MOST};
 ghost use Rattle.call_words.specs.declared.limits.TheConstants.{SLOTS, LINES};
 ghost use Rattle.call_words.specs.declared.text.TheConstants.{PIECE_BYTES};
 ghost use Rattle.script_text.specs.Words.{number_below};
-ghost use Rattle.script_text.specs.Values.{slot_of, line_of, fd_of, max_of, taken_of, mode_of, access_of, flag_letters, is_flag_letter, times, are_flags, flags_in, flags_of};
+ghost use Rattle.script_text.specs.Values.{slot_of, line_of, fd_of, max_of, taken_of, from_of, mode_of, access_of, flag_letters, is_flag_letter, times, are_flags, flags_in, flags_of};
 
 use crate::numbers::{DECIMAL, OCTAL, read_number};
+use acl_core::MODE_MOST;
 use call_words::{Access, LINES, OpenFlags, PIECE_BYTES, SLOTS};
 
 /// The mode of an open that names none.
@@ -56,11 +58,20 @@ pub fn read_taken(word: &[u8]) -> Option<u16>
     Some(max as u16)
 }
 
-/// A mode, in octal.
-pub fn read_mode(word: &[u8]) -> Option<u16>
-    ensures { result ≡ mode_of word.now }
+/// How many names a listing passes over.
+pub fn read_from(word: &[u8]) -> Option<u16>
+    ensures { result ≡ from_of word.now }
 {
-    let mode = read_number(word, OCTAL, 0o1000)?;
+    let from = read_number(word, DECIMAL, 1 << 16)?;
+    Some(from as u16)
+}
+
+/// A mode, in octal, up to 777.
+pub fn read_mode(word: &[u8]) -> Option<u16>
+    ensures value { result ≡ mode_of word.now }
+    ensures most { IfSome result (λ mode. mode ≤ MODE_MOST) }
+{
+    let mode = read_number(word, OCTAL, u32::from(MODE_MOST) + 1)?;
     Some(mode as u16)
 }
 

@@ -1,42 +1,44 @@
-//! The words of a line.
-ghost use Rattle.std.specs.Prelude.{◌≡◌, ℕ, ◌+◌, ◌-◌, List, [], ◌∷◌, length, option_copied, option_map, position, MatchOption};
-ghost use Rattle.script_text.specs.Words.{words as words_of, is_blank};
-ghost use Rattle.script_text.specs.Left.{words_after, only_word, both_words};
+//! The words of a line, and the parts of a word.
+ghost use Rattle.std.specs.Prelude.{◌≡◌, ◌==◌, ℕ, ◌+◌, ◌-◌, List, [], ◌∷◌, length, option_copied, option_map, position, MatchOption};
+ghost use Rattle.script_text.specs.Words.{words as words_of, parted};
+ghost use Rattle.script_text.specs.Left.{parts_after, only_word, both_words, three_words};
 
 use std::marker::Model;
 
-/// The words that are left of a line. In contracts it is the list of them.
+/// The words that are left of a line, or the parts of another text that a byte parts. In contracts
+/// it is the list of them.
 #[derive(Drop)]
 pub struct Words<'a> {
     left: Option<&'a [u8]>,
+    mark: u8,
 }
 
 impl<'a> Model for Words<'a> {
     ghost use Rattle.std.specs.Prelude.{ℕ, List, option_copied};
-    ghost use Rattle.script_text.specs.Left.{words_after};
+    ghost use Rattle.script_text.specs.Left.{parts_after};
 
     ghost Value = { List (List ℕ) };
 
-    ghost view = { λ w. words_after (option_copied w.left) };
+    ghost view = { λ w. parts_after w.mark (option_copied w.left) };
 }
 
-/// Where the first blank is.
-fn blank_at(line: &[u8]) -> Option<usize>
-    ensures { result ≡ position is_blank line.now }
+/// Where the first mark is.
+fn first_mark(text: &[u8], mark: u8) -> Option<usize>
+    ensures { result ≡ position (λ b. b == mark) text.now }
 {
-    line.iter().position(|byte| *byte == b' ')
+    text.iter().position(|byte| *byte == mark)
 }
 
-/// The first word, and what follows the blank after it, if there is one.
-#[tactic(auto, using(crate::proofs::Cuts::words_one))]
-fn cut_word(line: &[u8]) -> (&[u8], Option<&[u8]>)
-    ensures { words_of line.now ≡ result.0.now ∷ words_after (option_copied result.1) }
+/// The first part, and what follows the mark after it, if there is one.
+#[tactic(auto, using(crate::proofs::Cuts::parted_one))]
+fn cut_part(text: &[u8], mark: u8) -> (&[u8], Option<&[u8]>)
+    ensures { parted mark text.now ≡ result.0.now ∷ parts_after mark (option_copied result.1) }
 {
-    match blank_at(line) {
-        None => (line, None),
+    match first_mark(text, mark) {
+        None => (text, None),
         Some(at) => {
-            let (word, rest) = line.split_at(at);
-            (word, Some(&rest[1..]))
+            let (part, rest) = text.split_at(at);
+            (part, Some(&rest[1..]))
         }
     }
 }
@@ -46,14 +48,24 @@ impl<'a> Words<'a> {
     pub fn new(line: &'a [u8]) -> Self
         ensures { result ≡ words_of line.now }
     {
-        Words { left: Some(line) }
+        Words::parted(line, b' ')
+    }
+
+    /// All parts of a text that a byte parts.
+    pub fn parted(text: &'a [u8], mark: u8) -> Self
+        ensures { result ≡ parted mark text.now }
+    {
+        Words {
+            left: Some(text),
+            mark,
+        }
     }
 
     /// Takes the next word. `None` exactly where none is left.
     pub fn next(&mut self) -> Option<&'a [u8]>
         ensures { MatchOption result ((self.old ≡ []) × (self.new ≡ [])) (λ word. self.old ≡ word.now ∷ self.new) }
     {
-        let (word, left) = cut_word(self.left?);
+        let (word, left) = cut_part(self.left?, self.mark);
         self.left = left;
         Some(word)
     }
@@ -77,4 +89,13 @@ pub fn both<'a>(words: &mut Words<'a>) -> Option<(&'a [u8], &'a [u8])>
     let first = words.next()?;
     let second = only(words)?;
     Some((first, second))
+}
+
+/// The three words that are left.
+pub fn all_three<'a>(words: &mut Words<'a>) -> Option<(&'a [u8], &'a [u8], &'a [u8])>
+    ensures { option_map (λ three. (three.0.now, three.1.now, three.2.now)) result ≡ three_words words.old }
+{
+    let first = words.next()?;
+    let (second, third) = both(words)?;
+    Some((first, second, third))
 }

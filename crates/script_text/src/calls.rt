@@ -1,0 +1,318 @@
+//! The calls of an event line.
+ghost use Rattle.std.specs.Prelude.{◌≡◌, IfSome};
+ghost use Rattle.call_words.specs.Calls.{HasFitMode};
+ghost use Rattle.script_text.specs.Calls.{open_of, close_of, read_of, write_of, chdir_of, mkdir_of, rmdir_of, unlink_of, list_of, info_of, chmod_of, chown_of, setacl_of, getacl_of, setlabel_of, getlabel_of, setproclabel_of, ident_of, setcred_of, umask_of, revoke_of, caller_call_of, rights_call_of, path_call_of, call_of};
+
+use crate::numbers::read_bytes;
+use crate::paths::read_path;
+use crate::rights::{read_groups, read_id, read_which};
+use crate::values::{
+    DEFAULT_MODE, read_access, read_fd, read_flags, read_from, read_max, read_mode,
+};
+use crate::words::{Words, all_three, both, only};
+use acl_core::Cred;
+use call_words::{Call, Entries, OpenFlags};
+use label_core::{read_element, read_subject};
+
+/// `open PATH ACCESS FLAGS MODE`, where FLAGS and MODE may be absent from the right.
+fn read_open(words: &mut Words) -> Option<Call>
+    ensures call { result ≡ open_of words.old }
+    ensures fit { IfSome result HasFitMode }
+{
+    let path = words.next()?;
+    let access = words.next()?;
+    let flags = match words.next() {
+        Some(word) => read_flags(word)?,
+        None => OpenFlags::default(),
+    };
+    let mode = match words.next() {
+        Some(word) => read_mode(word)?,
+        None => DEFAULT_MODE,
+    };
+    if words.next().is_some() {
+        return None;
+    }
+    Some(Call::Open {
+        path: read_path(path)?,
+        access: read_access(access)?,
+        flags,
+        mode,
+    })
+}
+
+/// `close FD`
+fn read_close(words: &mut Words) -> Option<Call>
+    ensures { result ≡ close_of words.old }
+{
+    let fd = read_fd(only(words)?)?;
+    Some(Call::Close { fd })
+}
+
+/// `read FD MAX`
+fn read_read(words: &mut Words) -> Option<Call>
+    ensures { result ≡ read_of words.old }
+{
+    let (fd, max) = both(words)?;
+    let fd = read_fd(fd)?;
+    let max = read_max(max)?;
+    Some(Call::Read { fd, max })
+}
+
+/// `write FD HEX`
+fn read_write(words: &mut Words) -> Option<Call>
+    ensures { result ≡ write_of words.old }
+{
+    let (fd, bytes) = both(words)?;
+    let fd = read_fd(fd)?;
+    let bytes = read_bytes(bytes)?;
+    Some(Call::Write { fd, bytes })
+}
+
+/// `chdir PATH`
+fn read_chdir(words: &mut Words) -> Option<Call>
+    ensures { result ≡ chdir_of words.old }
+{
+    let path = read_path(only(words)?)?;
+    Some(Call::Chdir { path })
+}
+
+/// `mkdir PATH MODE`
+fn read_mkdir(words: &mut Words) -> Option<Call>
+    ensures call { result ≡ mkdir_of words.old }
+    ensures fit { IfSome result HasFitMode }
+{
+    let (path, mode) = both(words)?;
+    let path = read_path(path)?;
+    let mode = read_mode(mode)?;
+    Some(Call::Mkdir { path, mode })
+}
+
+/// `rmdir PATH`
+fn read_rmdir(words: &mut Words) -> Option<Call>
+    ensures { result ≡ rmdir_of words.old }
+{
+    let path = read_path(only(words)?)?;
+    Some(Call::Rmdir { path })
+}
+
+/// `unlink PATH`
+fn read_unlink(words: &mut Words) -> Option<Call>
+    ensures { result ≡ unlink_of words.old }
+{
+    let path = read_path(only(words)?)?;
+    Some(Call::Unlink { path })
+}
+
+/// `list PATH FROM`
+fn read_list(words: &mut Words) -> Option<Call>
+    ensures { result ≡ list_of words.old }
+{
+    let (path, from) = both(words)?;
+    let path = read_path(path)?;
+    let from = read_from(from)?;
+    Some(Call::List { path, from })
+}
+
+/// `info PATH`
+fn read_info(words: &mut Words) -> Option<Call>
+    ensures { result ≡ info_of words.old }
+{
+    let path = read_path(only(words)?)?;
+    Some(Call::Info { path })
+}
+
+/// `chmod PATH MODE`
+fn read_chmod(words: &mut Words) -> Option<Call>
+    ensures call { result ≡ chmod_of words.old }
+    ensures fit { IfSome result HasFitMode }
+{
+    let (path, mode) = both(words)?;
+    let path = read_path(path)?;
+    let mode = read_mode(mode)?;
+    Some(Call::Chmod { path, mode })
+}
+
+/// `chown PATH UID GID`
+fn read_chown(words: &mut Words) -> Option<Call>
+    ensures { result ≡ chown_of words.old }
+{
+    let (path, uid, gid) = all_three(words)?;
+    let path = read_path(path)?;
+    let uid = read_id(uid)?;
+    let gid = read_id(gid)?;
+    Some(Call::Chown { path, uid, gid })
+}
+
+/// `setacl PATH WHICH LIST`
+fn read_setacl(words: &mut Words) -> Option<Call>
+    ensures { result ≡ setacl_of words.old }
+{
+    let (path, which, list) = all_three(words)?;
+    let path = read_path(path)?;
+    let which = read_which(which)?;
+    let list = Entries::new(acl_core::read_list(list).ok()?);
+    Some(Call::SetAcl { path, which, list })
+}
+
+/// `getacl PATH WHICH`
+fn read_getacl(words: &mut Words) -> Option<Call>
+    ensures { result ≡ getacl_of words.old }
+{
+    let (path, which) = both(words)?;
+    let path = read_path(path)?;
+    let which = read_which(which)?;
+    Some(Call::GetAcl { path, which })
+}
+
+/// `setlabel PATH ELEMENT`
+fn read_setlabel(words: &mut Words) -> Option<Call>
+    ensures { result ≡ setlabel_of words.old }
+{
+    let (path, element) = both(words)?;
+    let path = read_path(path)?;
+    let element = read_element(element).ok()?;
+    Some(Call::SetLabel { path, element })
+}
+
+/// `getlabel PATH`
+fn read_getlabel(words: &mut Words) -> Option<Call>
+    ensures { result ≡ getlabel_of words.old }
+{
+    let path = read_path(only(words)?)?;
+    Some(Call::GetLabel { path })
+}
+
+/// `setproclabel SUBJECT`
+fn read_setproclabel(words: &mut Words) -> Option<Call>
+    ensures { result ≡ setproclabel_of words.old }
+{
+    let subject = read_subject(only(words)?).ok()?;
+    Some(Call::SetProcLabel { subject })
+}
+
+/// `ident`
+fn read_ident(words: &mut Words) -> Option<Call>
+    ensures { result ≡ ident_of words.old }
+{
+    match words.next() {
+        None => Some(Call::Ident),
+        Some(_) => None,
+    }
+}
+
+/// `setcred UID GID GROUPS`
+fn read_setcred(words: &mut Words) -> Option<Call>
+    ensures { result ≡ setcred_of words.old }
+{
+    let (uid, gid, groups) = all_three(words)?;
+    let uid = read_id(uid)?;
+    let gid = read_id(gid)?;
+    let groups = read_groups(groups)?;
+    let cred = Cred { uid, gid, groups };
+    Some(Call::SetCred { cred })
+}
+
+/// `umask MODE`
+fn read_umask(words: &mut Words) -> Option<Call>
+    ensures call { result ≡ umask_of words.old }
+    ensures fit { IfSome result HasFitMode }
+{
+    let mode = read_mode(only(words)?)?;
+    Some(Call::Umask { mode })
+}
+
+/// `revoke PATH`
+fn read_revoke(words: &mut Words) -> Option<Call>
+    ensures { result ≡ revoke_of words.old }
+{
+    let path = read_path(only(words)?)?;
+    Some(Call::Revoke { path })
+}
+
+/// The calls on what the caller itself is: a call by its name and its words.
+#[tactic(auto, unfolding(crate::specs::Calls::caller_call_of))]
+fn read_caller_call(name: &[u8], words: &mut Words) -> Option<Call>
+    ensures call { result ≡ caller_call_of name.now words.old }
+    ensures fit { IfSome result HasFitMode }
+{
+    if name == b"setproclabel".as_slice() {
+        read_setproclabel(words)
+    } else if name == b"ident".as_slice() {
+        read_ident(words)
+    } else if name == b"setcred".as_slice() {
+        read_setcred(words)
+    } else if name == b"umask".as_slice() {
+        read_umask(words)
+    } else {
+        None
+    }
+}
+
+/// The calls on the mode, the owner, the lists and the label of a node, and those of the next
+/// group.
+#[tactic(auto, unfolding(crate::specs::Calls::rights_call_of))]
+fn read_rights_call(name: &[u8], words: &mut Words) -> Option<Call>
+    ensures call { result ≡ rights_call_of name.now words.old }
+    ensures fit { IfSome result HasFitMode }
+{
+    if name == b"chmod".as_slice() {
+        read_chmod(words)
+    } else if name == b"chown".as_slice() {
+        read_chown(words)
+    } else if name == b"setacl".as_slice() {
+        read_setacl(words)
+    } else if name == b"getacl".as_slice() {
+        read_getacl(words)
+    } else if name == b"setlabel".as_slice() {
+        read_setlabel(words)
+    } else if name == b"getlabel".as_slice() {
+        read_getlabel(words)
+    } else {
+        read_caller_call(name, words)
+    }
+}
+
+/// The calls on directories and paths, and those of the next groups.
+#[tactic(auto, unfolding(crate::specs::Calls::path_call_of))]
+fn read_path_call(name: &[u8], words: &mut Words) -> Option<Call>
+    ensures call { result ≡ path_call_of name.now words.old }
+    ensures fit { IfSome result HasFitMode }
+{
+    if name == b"chdir".as_slice() {
+        read_chdir(words)
+    } else if name == b"mkdir".as_slice() {
+        read_mkdir(words)
+    } else if name == b"rmdir".as_slice() {
+        read_rmdir(words)
+    } else if name == b"unlink".as_slice() {
+        read_unlink(words)
+    } else if name == b"list".as_slice() {
+        read_list(words)
+    } else if name == b"info".as_slice() {
+        read_info(words)
+    } else if name == b"revoke".as_slice() {
+        read_revoke(words)
+    } else {
+        read_rights_call(name, words)
+    }
+}
+
+/// A call: its name and its words. The calls that open a file or are on an open one come first.
+#[tactic(auto, unfolding(crate::specs::Calls::call_of))]
+pub fn read_call(words: &mut Words) -> Option<Call>
+    ensures call { result ≡ call_of words.old }
+    ensures fit { IfSome result HasFitMode }
+{
+    let name = words.next()?;
+    if name == b"open".as_slice() {
+        read_open(words)
+    } else if name == b"close".as_slice() {
+        read_close(words)
+    } else if name == b"read".as_slice() {
+        read_read(words)
+    } else if name == b"write".as_slice() {
+        read_write(words)
+    } else {
+        read_path_call(name, words)
+    }
+}
