@@ -1,4 +1,7 @@
 pub mod Access
+pub mod Contents
+pub mod Listing
 pub mod NewNodes
 pub mod Paths
+pub mod Standard
 pub mod Tree

@@ -1,6 +1,6 @@
 -- A node that a caller makes in a directory, after open(2), mkdir(2), umask(2) and, for default lists, draft POSIX.1e. That the
 -- umask plays no part where there is a default list is this project's own.
-use Rattle.std.specs.Prelude.{ℕ, ◌-◌, ◌==◌, Bool, true, false, List, [], ◌∷◌, Option, Some, None, bit_and, option_map, if◌then◌else◌}
+use Rattle.std.specs.Prelude.{ℕ, ◌-◌, Bool, true, false, List, [], ◌∷◌, Option, Some, None, bit_and, option_map, if◌then◌else◌}
 use Rattle.label_core.specs.declared.subject.Subject.{Subject}
 use Rattle.acl_core.specs.declared.cred.Cred.{Cred}
 use Rattle.acl_core.specs.declared.entry.Entry.{Entry}
@@ -45,3 +45,11 @@ make_rule cred subject dir full = first (
     refusal cred subject dir.attrs false true false
     ∷ line full rule.NodeRoom
     ∷ [])
+
+-- the same of what is at a path
+abbrev pub make_rule_in : Cred → Subject → Option NodeRecord → Bool → Option Rule
+make_rule_in cred subject None full = None
+make_rule_in cred subject (Some dir) full = make_rule cred subject dir full
+
+abbrev pub made_in : Cred → Subject → ℕ → Option NodeRecord → Kind → ℕ → Option NodeRecord
+made_in cred subject umask dir kind mode = option_map (λ d. new_in cred subject umask d kind mode) dir

@@ -5,12 +5,17 @@ use Rattle.acl_core.specs.declared.cred.Cred.{Cred}
 use Rattle.call_words.specs.declared.rules.Rule.{Rule}
 use Rattle.call_words.specs.declared.rules.Rule.TheVariants as rule
 use Rattle.access_rule.specs.Access.{first, line, refusal}
-use Rattle.access_rule.specs.Tree.{NodeRecord, Tree, is_dir_record, is_parent, parent_of, steps, begin_at}
+use Rattle.access_rule.specs.Tree.{NodeRecord, Tree, WalkEnd, walk, is_dir_record, is_parent, parent_of, steps, begin_at}
+use Rattle.access_rule.specs.Tree as tree
+
+-- the first rule by which a caller may not read, write or execute what is at a path
+abbrev pub access_rule : Cred → Subject → Option NodeRecord → Bool → Bool → Bool → Option Rule
+access_rule cred subject None read write exec = None
+access_rule cred subject (Some node) read write exec = refusal cred subject node.attrs read write exec
 
 -- the rule by which a caller may not search a directory
 abbrev pub search_rule : Cred → Subject → Option NodeRecord → Option Rule
-search_rule cred subject None = None
-search_rule cred subject (Some node) = refusal cred subject node.attrs false false true
+search_rule cred subject node = access_rule cred subject node false false true
 
 abbrev pub is_last : List (List ℕ) → Bool
 is_last [] = true
@@ -38,3 +43,28 @@ path_rule tree cred subject here text = first (
     line (nat_lt 1023 (length text)) rule.PathLong
     ∷ line (length text == 0) rule.NoEntry
     ∷ part_lines tree cred subject (begin_at here text) (steps text))
+
+-- the last part of a path is absent
+abbrev pub is_absent_end : WalkEnd → Bool
+is_absent_end (tree.absent dir name) = true
+is_absent_end (tree.found path) = false
+is_absent_end tree.missing = false
+is_absent_end tree.not_dir = false
+is_absent_end tree.name_long = false
+is_absent_end tree.path_long = false
+
+-- the path that a walk leads to
+abbrev pub path_at : WalkEnd → List (List ℕ)
+path_at (tree.found path) = path
+path_at (tree.absent dir name) = dir ++ name ∷ []
+path_at tree.missing = []
+path_at tree.not_dir = []
+path_at tree.name_long = []
+path_at tree.path_long = []
+
+-- the first rule by which a path leads to no node
+abbrev pub node_rule : Tree → Cred → Subject → List (List ℕ) → List ℕ → Option Rule
+node_rule tree cred subject here text = first (
+    path_rule tree cred subject here text
+    ∷ line (is_absent_end (walk tree here text).end) rule.NoEntry
+    ∷ [])

@@ -1,8 +1,12 @@
 -- The file tree: a finite map from paths to what their nodes are, and the walk of a path through it, after
 -- path_resolution of POSIX.1, 4.13, and hier(7).
-use Rattle.std.specs.Prelude.{ℕ, Bool, true, false, not, ◌||◌, ◌==◌, List, [], ◌∷◌, ◌++◌, length, take, nat_lt, Option, Some, None, is_some, if◌then◌else◌, codes, filter, ◌-◌}
+use Rattle.std.specs.Prelude.{ℕ, Bool, true, false, not, ◌||◌, ◌==◌, List, [], ◌∷◌, ◌++◌, length, take, nat_lt, sum_by, Option, Some, None, is_some, if◌then◌else◌, codes, filter, ◌-◌}
 use Rattle.std.specs.List.{slice_split}
 use Rattle.std.specs.Str.{byte, bytes_eq}
+use Rattle.std.specs.declared.cmp.Ordering.{Ordering}
+use Rattle.std.specs.Ordering.{nat_cmp, eq_by_cmp}
+use Rattle.std.specs.Cmp.Lexicographic.{slice_cmp}
+use Rattle.std.specs.FinMap.Entries.{find, put, where_key}
 use Rattle.acl_core.specs.declared.entry.Entry.{Entry}
 use Rattle.call_words.specs.declared.node.Kind.{Kind}
 use Rattle.call_words.specs.declared.node.Kind.TheVariants as kind
@@ -19,6 +23,41 @@ pub record NodeRecord : Type 0 where
 -- a tree: what is at a path, which is the list of names from the root down
 abbrev pub Tree : Type 0
 Tree = List (List ℕ) → Option NodeRecord
+
+-- a node: its path, which is the list of names from the root down to it, and what it is
+pub record Named : Type 0 where
+  pub path : List (List ℕ)
+  pub node : NodeRecord
+
+abbrev pub new_node : Kind → Attrs → Option (List Entry) → List ℕ → NodeRecord
+new_node kind attrs default contents = record { kind = kind; attrs = attrs; default = default; contents = contents }
+
+-- paths have an order: name by name, and names byte by byte
+abbrev pub path_cmp : List (List ℕ) → List (List ℕ) → Ordering
+path_cmp = slice_cmp (slice_cmp nat_cmp)
+
+-- the same tree as a value: the paths that have a node, in their order, each with what it is
+abbrev pub Nodes : Type 0
+Nodes = List (List (List ℕ) × NodeRecord)
+
+-- what is at a path
+unfoldable pub at_path : Nodes → Tree
+at_path nodes path = find path_cmp path nodes
+
+-- with this at a path, and all else as it was; or with nothing there
+unfoldable pub placed : Nodes → List (List ℕ) → Option NodeRecord → Nodes
+placed nodes path (Some node) = put path_cmp path node nodes
+placed nodes path None = where_key path_cmp (λ other. not (eq_by_cmp path_cmp path other)) nodes
+
+-- a tree of some nodes; of two at one path it has the first
+unfoldable pub nodes_from : List (Option Named) → Nodes
+nodes_from [] = []
+nodes_from (None ∷ more) = nodes_from more
+nodes_from (Some named ∷ more) = placed (nodes_from more) named.path (Some named.node)
+
+-- how many bytes all files hold
+unfoldable pub bytes_in : Nodes → ℕ
+bytes_in nodes = sum_by (λ n. length n.1.contents) nodes
 
 abbrev pub is_dir : Kind → Bool
 is_dir kind.Dir = true
