@@ -20,3 +20,4 @@ pub mod NamesOrder
 pub mod NamesText
 pub mod NamesBelow
 pub mod NamesLaws
+pub mod Finite

@@ -11,23 +11,23 @@ use Rattle.std.proofs.lemmas.List.Sorted.{Contains-permutation, IsPermutation-sy
 use Rattle.std.proofs.Math.Seq.{take-suc}
 use Rattle.vnode_tree.specs.Nodes.{Named, path_of, same_path, tree_of}
 use Rattle.vnode_tree.specs.Names.{name_after, names_below, paths_of, in_order, names_in, joined, fits, fitting, names_text, AreBelow, Rise, IsMostOf}
-use Rattle.vnode_tree.proofs.Trees.{path_true, path_refl, ArePathsApart, found_at}
+use Rattle.vnode_tree.proofs.Trees.{path_true, path_refl, ArePathsApart, tail_apart, found_at}
 use Rattle.vnode_tree.proofs.NamesOrder.{times, times_permutation, in_order_permutes, in_order_ascends, ascends_rises, ascends_same, rises_ascend, rises_once}
 use Rattle.vnode_tree.proofs.NamesBelow.{after_of, after_is}
 use Rattle.vnode_tree.proofs.NamesText.{next_is}
 
 -- ---- a name in a list
 
-abbrev In : List ℕ → List (List ℕ) → Type 0
+abbrev pub In : List ℕ → List (List ℕ) → Type 0
 In z [] = ⊥
 In z (x ∷ xs) = (x ≡ z) ⊎ In z xs
 
-in_from_contains : (z : List ℕ) (xs : List (List ℕ)) (k : ℕ) → k < length xs → get_or xs k z ≡ z → In z xs
+pub in_from_contains : (z : List ℕ) (xs : List (List ℕ)) (k : ℕ) → k < length xs → get_or xs k z ≡ z → In z xs
 in_from_contains z [] k below here = absurd (omega arith)
 in_from_contains z (x ∷ xs) zero below here = inl here
 in_from_contains z (x ∷ xs) (suc k) below here = inr (in_from_contains z xs k (omega arith) here)
 
-contains_from_in : (z : List ℕ) (xs : List (List ℕ)) → In z xs → Contains xs z
+pub contains_from_in : (z : List ℕ) (xs : List (List ℕ)) → In z xs → Contains xs z
 contains_from_in z [] i = absurd i
 contains_from_in z (x ∷ xs) i = elim i [
   | inl here ↦ (0, omega arith, here)
@@ -41,7 +41,7 @@ in_from_times z (x ∷ xs) some = elim (cases_Bool (bytes_eq z x)) [
   | inr other ↦ let rest : 0 < 0 + times z xs = rw other at some in inr (in_from_times z xs (omega arith))
 ]
 
-in_rest : (z : List ℕ) (o : Option (List ℕ)) (xs : List (List ℕ)) → In z xs → In z (cons_option o xs)
+pub in_rest : (z : List ℕ) (o : Option (List ℕ)) (xs : List (List ℕ)) → In z xs → In z (cons_option o xs)
 in_rest z None xs i = i
 in_rest z (Some x) xs i = inr i
 
@@ -88,9 +88,6 @@ are_below nodes dir name =
     )
 
 -- ---- no name stands twice
-
-tail_apart : (x : Option Named) (nodes : List (Option Named)) → ArePathsApart (x ∷ nodes) → ArePathsApart nodes
-tail_apart x nodes all = record { apart = λ n m a b at there same. let one : suc n ≡ suc m = all.apart (suc n) (suc m) a b at there same in omega arith }
 
 once_below : (nodes : List (Option Named)) (dir : List (List ℕ)) (z : List ℕ) → ArePathsApart nodes → times z (names_below (paths_of nodes) dir) ≤ 1
 once_below [] dir z all = omega arith

@@ -33,6 +33,9 @@ path_false p q apart = elim (same_path p q) as (λ b. same_path p q ≡ b → b 
 pub record ArePathsApart (nodes : List (Option Named)) : Type 0 where
   pub apart : (n m : ℕ) (a b : Named) → named_at nodes n ≡ Some a → named_at nodes m ≡ Some b → a.path ≡ b.path → n ≡ m
 
+pub tail_apart : (x : Option Named) (nodes : List (Option Named)) → ArePathsApart (x ∷ nodes) → ArePathsApart nodes
+tail_apart x nodes all = record { apart = λ n m a b at there same. let one : suc n ≡ suc m = all.apart (suc n) (suc m) a b at there same in omega arith }
+
 -- a place may have a path: it has it or is free, and no other place has it
 pub record Owns (nodes : List (Option Named)) (n : ℕ) (path : List (List ℕ)) : Type 0 where
   pub here : (a : Named) → named_at nodes n ≡ Some a → a.path ≡ path

@@ -4,14 +4,10 @@ use Rattle.std.specs.Prelude.{◌≡◌, ◌≢◌, ℕ, Bool, true, false, ◌&
 use Rattle.std.specs.List.{list_all}
 use Rattle.std.specs.Str.{bytes_eq}
 use Rattle.acl_core.specs.declared.entry.Entry.{Entry}
-use Rattle.call_words.specs.declared.node.Kind.{Kind}
 use Rattle.access_rule.specs.declared.Attrs.{Attrs}
 use Rattle.access_rule.specs.Tree.{NodeRecord, Tree, is_file, is_skipped, is_parent, is_slash}
-
--- a node: its path, which is the list of names from the root down to it, and what it is
-pub record Named : Type 0 where
-  pub path : List (List ℕ)
-  pub node : NodeRecord
+pub use Rattle.access_rule.specs.Tree.{Named, new_node}
+pub use Rattle.access_rule.specs.Contents.{with_contents}
 
 -- what there is of a node of a number, if there is such a node
 abbrev pub named_at : List (Option Named) → ℕ → Option Named
@@ -70,13 +66,6 @@ with_attrs attrs node = record node { attrs = attrs }
 
 abbrev pub with_default : Option (List Entry) → NodeRecord → NodeRecord
 with_default list node = record node { default = list }
-
-abbrev pub with_contents : List ℕ → NodeRecord → NodeRecord
-with_contents bytes node = record node { contents = bytes }
-
--- a new node
-abbrev pub new_node : Kind → Attrs → Option (List Entry) → List ℕ → NodeRecord
-new_node kind attrs default contents = record { kind = kind; attrs = attrs; default = default; contents = contents }
 
 -- a name that a node may have: no dots alone, and no slash
 abbrev pub is_name : List ℕ → Bool

@@ -14,18 +14,12 @@ mod table;
 mod tree;
 mod walk;
 
-pub use call_words::{Kind, Node};
+pub use call_words::{FILE_SPACE, Kind, NODES, Node};
 pub use entry::Name255;
-pub use names::{TEXT_BYTES, TextText};
+pub use names::TextText;
 pub use std::alloc::AllocError as NoMemory;
 pub use tree::{Tree, TreeFull, WriteFault};
 pub use walk::{End, LONGEST_PATH, MOST_PARTS, Walk};
-
-/// How many nodes a tree has at most, the root among them.
-pub const NODES: usize = 1024;
-
-/// How many bytes the contents of all files have at most.
-pub const FILE_SPACE: usize = 4_194_304;
 
 /// How many bytes the name of a node has at most.
 pub const NAME_BYTES: usize = 255;

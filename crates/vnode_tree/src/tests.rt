@@ -121,6 +121,15 @@ fn a_boot_makes_the_standard_nodes(rt: HostRuntime) -> Result<(), Fail> {
     Ok(())
 }
 
+#[test]
+fn sizes_count_what_nodes_hold(rt: HostRuntime) -> Result<(), Fail> {
+    let tree = standard(rt.alloc())?;
+    for (path, size) in [("/bin", 0), ("/bin/cat", 10), ("/etc/ttys", 80)] {
+        assert_eq!(rt; tree.size(at(&rt, &tree, path)), size, "{path}");
+    }
+    Ok(())
+}
+
 /// Where a walk is to end: at the node of a path, at a directory without a name, or at a part that fails.
 #[derive(Clone, Copy)]
 enum Want {

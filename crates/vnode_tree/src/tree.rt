@@ -1,10 +1,11 @@
 //! The tree: its nodes, made, changed and taken away.
-ghost use Rattle.std.specs.Prelude.{◌≡◌, ◌≢◌, ◌↔◌, ℕ, ◌<◌, ◌≤◌, List, [], ◌∷◌, ◌++◌, Some, None, Ok, Err, option_map, option_copied, MatchOption, length, IsTrue, IsErr, IfOk, OnOk, OnErr, ◌+◌};
+ghost use Rattle.std.specs.Prelude.{◌≡◌, ◌≢◌, ◌↔◌, ℕ, ◌<◌, ◌≤◌, List, [], ◌∷◌, ◌++◌, Some, None, Ok, Err, option_map, option_copied, MatchOption, length, not, IsTrue, IsErr, IfOk, OnOk, OnErr, ◌+◌};
 ghost use Rattle.std.specs.Bool.{OnTrue, OnFalse};
-ghost use Rattle.access_rule.specs.Tree.{NodeRecord, is_dir, is_dir_record, parent_of};
+ghost use Rattle.access_rule.specs.Tree.{NodeRecord, is_dir, is_dir_record, parent_of, at_path, placed, nodes_from, bytes_in};
+ghost use Rattle.access_rule.specs.Listing.{is_empty_dir};
 ghost use Rattle.vnode_tree.specs.Contents.{bytes_at, with_written, space_of};
 ghost use Rattle.vnode_tree.specs.Standard.{Keeps};
-ghost use Rattle.vnode_tree.specs.declared.TheConstants.{NODES, FILE_SPACE};
+ghost use Rattle.call_words.specs.declared.limits.TheConstants.{NODES, FILE_SPACE};
 ghost use Rattle.vnode_tree.specs.declared.tree.WriteFault.TheVariants.{Space};
 ghost use Rattle.vnode_tree.specs.Nodes.{IsLive, IsFile, is_file_record, IsAt, IsLeaf, IsRemovable, HasChild, named_at, path_of, record_of, tree_of, with_node, with_record, with_attrs, with_default, with_contents, new_node, is_name, count_of, ChangesAt};
 
@@ -52,10 +53,11 @@ impl Model for Tree {
 }
 
 impl Tree {
-    /// The root.
+    /// The root, which is a directory.
     pub fn root(&self) -> Node
         ensures live { IsLive self.now result }
         ensures path { path_of self.now result ≡ [] }
+        ensures directory { IsTrue (is_dir_record (record_of self.now result)) }
     {
         let _ = &self.entries;
         Node::ROOT
@@ -75,26 +77,28 @@ impl Tree {
     }
 
     /// Whether a node is a regular file. The node is live.
-    #[tactic(auto, using(crate::proofs::Looks::live_entry, crate::proofs::Looks::record_is))]
+    #[tactic(auto, using(crate::proofs::Looks::live_entry, crate::proofs::Looks::record_is, crate::proofs::Finite::what_is_at))]
     pub fn is_file(&self, node: Node) -> bool
         requires { IsLive self.now node }
-        ensures { result ≡ is_file_record (record_of self.now node) }
+        ensures file { result ≡ is_file_record (record_of self.now node) }
+        ensures map { record_of self.now node ≡ at_path (nodes_from self.now) (path_of self.now node) }
     {
         matches!(entry_of(self.entries.as_slice(), node).kind, Kind::File)
     }
 
     /// Whether a node is a directory. The node is live.
-    #[tactic(auto, using(crate::proofs::Looks::live_entry, crate::proofs::Looks::record_is, crate::proofs::Children::what_is_there))]
+    #[tactic(auto, using(crate::proofs::Looks::live_entry, crate::proofs::Looks::record_is, crate::proofs::Children::what_is_there, crate::proofs::Finite::what_is_at))]
     pub fn is_dir(&self, node: Node) -> bool
         requires { IsLive self.now node }
         ensures there { result ≡ is_dir_record (tree_of self.now (path_of self.now node)) }
         ensures itself { result ≡ is_dir_record (record_of self.now node) }
+        ensures map { record_of self.now node ≡ at_path (nodes_from self.now) (path_of self.now node) }
     {
         matches!(entry_of(self.entries.as_slice(), node).kind, Kind::Dir)
     }
 
     /// The directory that a node is in; the root is in itself. The node is live.
-    pub(crate) fn parent(&self, node: Node) -> Node
+    pub fn parent(&self, node: Node) -> Node
         requires { IsLive self.now node }
         ensures { IsAt self.now (parent_of (path_of self.now node)) result }
     {
@@ -122,6 +126,7 @@ impl Tree {
         requires { IsLive self.now node }
         ensures some { OnTrue result (HasChild self.now (path_of self.now node)) }
         ensures none { OnFalse result (IsLeaf self.now (path_of self.now node)) }
+        ensures map { result ≡ not (is_empty_dir (nodes_from self.now) (path_of self.now node)) }
     {
         match first_child(self.entries.as_slice(), node.number()) {
             Some(_) => true,
@@ -130,33 +135,46 @@ impl Tree {
     }
 
     /// What a node is. The node is live.
-    #[tactic(auto, using(crate::proofs::Looks::live_entry, crate::proofs::Looks::record_is, crate::proofs::Children::what_is_there))]
+    #[tactic(auto, using(crate::proofs::Looks::live_entry, crate::proofs::Looks::record_is, crate::proofs::Children::what_is_there, crate::proofs::Finite::what_is_at))]
     pub fn kind(&self, node: Node) -> Kind
         requires { IsLive self.now node }
         ensures kind { option_map (λ r. r.kind) (record_of self.now node) ≡ Some result }
         ensures there { record_of self.now node ≡ tree_of self.now (path_of self.now node) }
+        ensures map { record_of self.now node ≡ at_path (nodes_from self.now) (path_of self.now node) }
     {
         entry_of(self.entries.as_slice(), node).kind
     }
 
     /// What access to a node depends on. The node is live.
-    #[tactic(auto, using(crate::proofs::Looks::live_entry, crate::proofs::Looks::record_is, crate::proofs::Children::what_is_there))]
+    #[tactic(auto, using(crate::proofs::Looks::live_entry, crate::proofs::Looks::record_is, crate::proofs::Children::what_is_there, crate::proofs::Finite::what_is_at))]
     pub fn attrs(&self, node: Node) -> &Attrs
         requires { IsLive self.now node }
         ensures attrs { option_map (λ r. r.attrs) (record_of self.now node) ≡ Some result.now }
         ensures dirs { result.now.is_dir ≡ is_dir_record (record_of self.now node) }
         ensures there { record_of self.now node ≡ tree_of self.now (path_of self.now node) }
+        ensures map { record_of self.now node ≡ at_path (nodes_from self.now) (path_of self.now node) }
     {
         &entry_of(self.entries.as_slice(), node).attrs
     }
 
     /// The list that a node gives to new nodes in it, if it has one. The node is live.
-    #[tactic(auto, using(crate::proofs::Looks::live_entry, crate::proofs::Looks::record_is))]
+    #[tactic(auto, using(crate::proofs::Looks::live_entry, crate::proofs::Looks::record_is, crate::proofs::Finite::what_is_at))]
     pub fn default_list(&self, node: Node) -> Option<&Acl>
         requires { IsLive self.now node }
-        ensures { option_map (λ r. r.default) (record_of self.now node) ≡ Some (option_copied result) }
+        ensures list { option_map (λ r. r.default) (record_of self.now node) ≡ Some (option_copied result) }
+        ensures map { record_of self.now node ≡ at_path (nodes_from self.now) (path_of self.now node) }
     {
         entry_of(self.entries.as_slice(), node).default.as_ref()
+    }
+
+    /// How many bytes a node holds. The node is live. (stat(2))
+    #[tactic(auto, using(crate::proofs::Looks::live_entry, crate::proofs::Looks::record_is, crate::proofs::Finite::what_is_at))]
+    pub fn size(&self, node: Node) -> u32
+        requires { IsLive self.now node }
+        ensures size { option_map (λ r. length r.contents) (record_of self.now node) ≡ Some result }
+        ensures map { record_of self.now node ≡ at_path (nodes_from self.now) (path_of self.now node) }
+    {
+        entry_of(self.entries.as_slice(), node).contents.len() as u32
     }
 
     /// Makes a node of that name in a directory. `TreeFull` comes exactly where there are 1,024 nodes, and then
@@ -177,10 +195,12 @@ impl Tree {
         requires named { IsTrue (is_name name.now) }
         requires kind { attrs.is_dir ≡ is_dir kind }
         ensures full { IsErr result ↔ (count_of self.old ≡ NODES) }
+        ensures full_map { IsErr result ↔ (length (nodes_from self.old) ≡ NODES) }
         ensures free { IfOk result (λ node. named_at self.old node ≡ None) }
         ensures made { IfOk result (λ node. self.new ≡ with_node self.old node (Some (record { path = path_of self.old dir ++ name.now ∷ []; node = new_node kind attrs default [] }))) }
         ensures live { IfOk result (λ node. IsLive self.new node) }
         ensures changes { OnOk result (ChangesAt (path_of self.old dir ++ name.now ∷ []) (Some (new_node kind attrs default [])) self.old self.new) }
+        ensures map { OnOk result (nodes_from self.new ≡ placed (nodes_from self.old) (path_of self.old dir ++ name.now ∷ []) (Some (new_node kind attrs default []))) }
         ensures err { OnErr result (self.new ≡ self.old) }
     {
         let contents = Contents::empty(*self.entries.allocator());
@@ -203,10 +223,12 @@ impl Tree {
         requires kind { attrs.is_dir ≡ is_dir kind }
         requires room { space_of self.old + length contents ≤ FILE_SPACE }
         ensures full { IsErr result ↔ (count_of self.old ≡ NODES) }
+        ensures full_map { IsErr result ↔ (length (nodes_from self.old) ≡ NODES) }
         ensures free { IfOk result (λ node. named_at self.old node ≡ None) }
         ensures made { IfOk result (λ node. self.new ≡ with_node self.old node (Some (record { path = path_of self.old dir ++ name.now ∷ []; node = new_node kind attrs default contents }))) }
         ensures live { IfOk result (λ node. IsLive self.new node) }
         ensures changes { OnOk result (ChangesAt (path_of self.old dir ++ name.now ∷ []) (Some (new_node kind attrs default contents)) self.old self.new) }
+        ensures map { OnOk result (nodes_from self.new ≡ placed (nodes_from self.old) (path_of self.old dir ++ name.now ∷ []) (Some (new_node kind attrs default contents))) }
         ensures count { OnOk result (count_of self.new ≡ count_of self.old + 1) }
         ensures space { OnOk result (space_of self.new ≡ space_of self.old + length contents) }
         ensures keeps { OnOk result (Keeps self.old self.new) }
@@ -232,6 +254,7 @@ impl Tree {
         requires removable { IsTrue (is_dir_record (record_of self.old node)) → IsRemovable self.old node }
         ensures gone { self.new ≡ with_node self.old node None }
         ensures changes { ChangesAt (path_of self.old node) None self.old self.new }
+        ensures map { nodes_from self.new ≡ placed (nodes_from self.old) (path_of self.old node) None }
     {
         table::take_away(self.entries.as_mut_slice(), node);
     }
@@ -243,6 +266,7 @@ impl Tree {
         requires kind { attrs.is_dir ≡ is_dir_record (record_of self.old node) }
         ensures set { self.new ≡ with_record (with_attrs attrs) self.old node }
         ensures changes { ChangesAt (path_of self.old node) (option_map (with_attrs attrs) (record_of self.old node)) self.old self.new }
+        ensures map { nodes_from self.new ≡ placed (nodes_from self.old) (path_of self.old node) (option_map (with_attrs attrs) (record_of self.old node)) }
     {
         table::set_attrs(self.entries.as_mut_slice(), node, attrs);
     }
@@ -252,16 +276,18 @@ impl Tree {
         requires live { IsLive self.old node }
         ensures set { self.new ≡ with_record (with_default list) self.old node }
         ensures changes { ChangesAt (path_of self.old node) (option_map (with_default list) (record_of self.old node)) self.old self.new }
+        ensures map { nodes_from self.new ≡ placed (nodes_from self.old) (path_of self.old node) (option_map (with_default list) (record_of self.old node)) }
     {
         table::set_default(self.entries.as_mut_slice(), node, list);
     }
 
     /// At most `max` bytes of a file from a place on. The node is a live file, and `max` is at most 512.
-    #[tactic(auto, using(crate::proofs::Looks::live_entry, crate::proofs::Looks::record_is))]
+    #[tactic(auto, using(crate::proofs::Looks::live_entry, crate::proofs::Looks::record_is, crate::proofs::Finite::what_is_at))]
     pub fn read(&self, node: Node, at: u32, max: u16) -> Piece
         requires file { IsFile self.now node }
         requires max { max ≤ 512 }
-        ensures { option_map (λ r. bytes_at at max r.contents) (record_of self.now node) ≡ Some result }
+        ensures bytes { option_map (λ r. bytes_at at max r.contents) (record_of self.now node) ≡ Some result }
+        ensures map { record_of self.now node ≡ at_path (nodes_from self.now) (path_of self.now node) }
     {
         let entry = entry_of(self.entries.as_slice(), node);
         entry.contents.read(at as usize, usize::from(max))
@@ -274,8 +300,10 @@ impl Tree {
     pub fn write(&mut self, node: Node, at: u32, bytes: &[u8]) -> Result<(), WriteFault>
         requires { IsFile self.old node }
         ensures space { (result ≡ Err Space) ↔ (FILE_SPACE < space_of (with_record (with_written at bytes.now) self.old node)) }
+        ensures space_map { (result ≡ Err Space) ↔ (FILE_SPACE < bytes_in (placed (nodes_from self.old) (path_of self.old node) (option_map (with_written at bytes.now) (record_of self.old node)))) }
         ensures written { OnOk result (self.new ≡ with_record (with_written at bytes.now) self.old node) }
         ensures changes { OnOk result (ChangesAt (path_of self.old node) (option_map (with_written at bytes.now) (record_of self.old node)) self.old self.new) }
+        ensures map { OnOk result (nodes_from self.new ≡ placed (nodes_from self.old) (path_of self.old node) (option_map (with_written at bytes.now) (record_of self.old node))) }
         ensures err { OnErr result (self.new ≡ self.old) }
     {
         let contents = &entry_of(self.entries.as_slice(), node).contents;
@@ -294,6 +322,7 @@ impl Tree {
         requires { IsFile self.old node }
         ensures cut { self.new ≡ with_record (with_contents []) self.old node }
         ensures changes { ChangesAt (path_of self.old node) (option_map (with_contents []) (record_of self.old node)) self.old self.new }
+        ensures map { nodes_from self.new ≡ placed (nodes_from self.old) (path_of self.old node) (option_map (with_contents []) (record_of self.old node)) }
     {
         table::clear(self.entries.as_mut_slice(), node);
     }

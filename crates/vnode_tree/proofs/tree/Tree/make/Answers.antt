@@ -5,6 +5,7 @@ use Rattle.vnode_tree.specs.Nodes.{path_of, new_node}
 use Rattle.vnode_tree.specs.Kept.{size_in}
 use Rattle.vnode_tree.proofs.Calls.{full_table, Made, made_call}
 use Rattle.vnode_tree.proofs.Files.{space_is}
+use Rattle.vnode_tree.proofs.Finite.{nodes_changed, nodes_counted, apart_table}
 use Rattle.vnode_tree.proofs.tree.Tree.make.Goals as goal
 
 pub returns-in_default-clause-full : goal.returns-in_default-clause-full
@@ -46,3 +47,12 @@ returns-clause-space c = (done c).space
 
 pub returns-clause-keeps : goal.returns-clause-keeps
 returns-clause-keeps c = (done c).keeps
+
+pub returns-clause-map : goal.returns-clause-map
+returns-clause-map c = nodes_changed _ _ _ _ (returns-clause-changes c)
+
+pub returns-clause-full_map : goal.returns-clause-full_map
+returns-clause-full_map c = rw (nodes_counted c.args.self.now (apart_table c.self.inside.entries.items c.args.self.now c.self.view_is c.self.invariant)) (returns-clause-full c)
+
+pub returns-in_default-clause-full_map : goal.returns-in_default-clause-full_map
+returns-in_default-clause-full_map c = rw (nodes_counted c.args.self.now (apart_table c.self.inside.entries.items c.args.self.now c.self.view_is c.self.invariant)) (returns-in_default-clause-full c)

@@ -1,4 +1,5 @@
 use Rattle.vnode_tree.proofs.Calls.{removed, place_written}
+use Rattle.vnode_tree.proofs.Finite.{nodes_changed}
 use Rattle.vnode_tree.proofs.tree.Tree.remove.Goals as goal
 
 pub invariant_of-self : goal.invariant_of-self
@@ -9,3 +10,6 @@ returns-clause-gone c = rw (place_written c.self.inside.entries.len c.self.insid
 
 pub returns-clause-changes : goal.returns-clause-changes
 returns-clause-changes c = rw (place_written c.self.inside.entries.len c.self.inside.entries.items c.as_mut_slice.result.now c.take_away.new.entries c.args.node c.self.inside.entries.ok.0 c.as_mut_slice.ensures.value c.take_away.ensures) (removed c.self.inside.entries.items c.args.self.now c.args.node c.self.view_is c.self.invariant c.requires.live c.requires.removable).changes
+
+pub returns-clause-map : goal.returns-clause-map
+returns-clause-map c = nodes_changed _ _ _ _ (returns-clause-changes c)

@@ -2,6 +2,7 @@ use Rattle.std.proofs.Common.{[]}
 use Rattle.vnode_tree.specs.Links.{entry_with_contents}
 use Rattle.vnode_tree.proofs.Calls.{entry_written}
 use Rattle.vnode_tree.proofs.Files.{file_cut}
+use Rattle.vnode_tree.proofs.Finite.{nodes_changed}
 use Rattle.vnode_tree.proofs.tree.Tree.truncate.Goals as goal
 
 pub invariant_of-self : goal.invariant_of-self
@@ -12,3 +13,6 @@ returns-clause-cut c = rw (entry_written (entry_with_contents (λ old. [])) c.se
 
 pub returns-clause-changes : goal.returns-clause-changes
 returns-clause-changes c = rw (entry_written (entry_with_contents (λ old. [])) c.self.inside.entries.len c.self.inside.entries.items c.as_mut_slice.result.now c.clear.new.entries c.args.node c.self.inside.entries.ok.0 c.as_mut_slice.ensures.value c.clear.ensures) (file_cut c.self.inside.entries.items c.args.self.now c.args.node c.self.view_is c.self.invariant c.requires).changes
+
+pub returns-clause-map : goal.returns-clause-map
+returns-clause-map c = nodes_changed _ _ _ _ (returns-clause-changes c)

@@ -5,6 +5,7 @@ use Rattle.vnode_tree.specs.Links.{entry_with_contents, with_entry}
 use Rattle.vnode_tree.proofs.Looks.{live_entry}
 use Rattle.vnode_tree.proofs.Calls.{Recorded, entry_written}
 use Rattle.vnode_tree.proofs.Files.{file_live, file_written, weighed}
+use Rattle.vnode_tree.proofs.Finite.{nodes_changed, bytes_after, apart_table}
 use Rattle.vnode_tree.proofs.tree.Tree.write.Goals as goal
 
 pub entry_of-requires : goal.entry_of-requires
@@ -41,3 +42,15 @@ pub returns-in-Err-clause-space : goal.returns-in-Err-clause-space
 returns-in-Err-clause-space c =
     let w = weighed c.self.inside.entries.items c.as_slice.result.now c.as_slice-2.result.now c.args.self.now c.args.node c.entry_of.result.now c.args.at c.args.bytes.now c.all_sizes.result c.len.result c.len_after.result c.self.view_is c.self.invariant c.as_slice.ensures.value c.as_slice-2.ensures.value c.entry_of.ensures c.all_sizes.ensures c.len.ensures c.len_after.ensures in
     (λ is. absurd cc, λ over. absurd (omega (arith, over, w.whole, w.part, w.most, c.if-len_after-others.false)))
+
+pub returns-in-Ok-clause-map : goal.returns-in-Ok-clause-map
+returns-in-Ok-clause-map c = nodes_changed _ _ _ _ (returns-in-Ok-clause-changes c)
+
+pub returns-then-len_after-others-clause-space_map : goal.returns-then-len_after-others-clause-space_map
+returns-then-len_after-others-clause-space_map c = rw (bytes_after (with_written c.args.at c.args.bytes.now) c.args.self.now c.args.node (apart_table c.self.inside.entries.items c.args.self.now c.self.view_is c.self.invariant) (file_live c.args.self.now c.args.node c.requires)) (returns-then-len_after-others-clause-space c)
+
+pub returns-in-Ok-clause-space_map : goal.returns-in-Ok-clause-space_map
+returns-in-Ok-clause-space_map c = rw (bytes_after (with_written c.args.at c.args.bytes.now) c.args.self.now c.args.node (apart_table c.self.inside.entries.items c.args.self.now c.self.view_is c.self.invariant) (file_live c.args.self.now c.args.node c.requires)) (returns-in-Ok-clause-space c)
+
+pub returns-in-Err-clause-space_map : goal.returns-in-Err-clause-space_map
+returns-in-Err-clause-space_map c = rw (bytes_after (with_written c.args.at c.args.bytes.now) c.args.self.now c.args.node (apart_table c.self.inside.entries.items c.args.self.now c.self.view_is c.self.invariant) (file_live c.args.self.now c.args.node c.requires)) (returns-in-Err-clause-space c)
