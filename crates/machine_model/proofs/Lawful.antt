@@ -1,30 +1,34 @@
 -- The laws hold of every run.
-use Rattle.std.proofs.Common.{◌≡◌, ℕ, zero, suc, ◌+◌, ◌≤◌, inl, inr, Bool, true, false, not, List, [], ◌∷◌, length, map, get_or, Option, Some, None, refl, sym, ap, subst, ◌∙◌, arith, ne_eqb, eqb, ltb, leb, is_none}
+use Rattle.std.proofs.Common.{◌≡◌, ℕ, zero, suc, ◌+◌, ◌≤◌, inl, inr, Bool, true, false, not, List, [], ◌∷◌, length, map, get_or, Option, Some, None, refl, sym, ap, subst, ◌∙◌, arith, ne_eqb, eqb, ltb, is_none}
 use Rattle.call_words.specs.declared.events.Event.{Event}
 use Rattle.call_words.specs.declared.events.Event.TheVariants as event
-use Rattle.call_words.specs.declared.events.Reply.TheVariants.{Num, Bytes, Denied, Gone}
+use Rattle.call_words.specs.declared.events.Reply.TheVariants.{Num, Bytes, Text, Denied, Gone}
 use Rattle.call_words.specs.declared.events.Decision.{Decision}
 use Rattle.call_words.specs.declared.events.Decision.TheVariants.{Answer, Taken, Noted}
 use Rattle.call_words.specs.declared.calls.Call.{Call}
-use Rattle.call_words.specs.declared.calls.Call.TheVariants.{Open, Close, Read, Write, Revoke}
+use Rattle.call_words.specs.declared.calls.Call.TheVariants as call
 use Rattle.call_words.specs.declared.rules.Rule.{Rule}
-use Rattle.call_words.specs.declared.rules.Rule.TheVariants.{Size, BadFd, FdMode, Dead, NotReady}
-use Rattle.machine_model.specs.declared.OpenFile.{OpenFile}
+use Rattle.call_words.specs.declared.rules.Rule.TheVariants.{Size, BadFd, FdMode, Dead, LabelRead, LabelWrite}
+use Rattle.user_db.specs.declared.boot.Boot.{Boot}
 use Rattle.machine_model.specs.State.{Tagged, State, boot}
-use Rattle.machine_model.specs.View.{look_at, view}
+use Rattle.machine_model.specs.View.{OpenFile, View, look_at, view}
 use Rattle.machine_model.specs.Effects.{tag_all}
-use Rattle.machine_model.specs.Rows.{Given, number, bytes, gone, taken, noted, Outcome, refused, early, line, first, decided, done_by}
-use Rattle.machine_model.specs.FileCalls.{file_at, holds_of}
+use Rattle.machine_model.specs.Rows.{Given, number, bytes, text, gone, taken, noted, Outcome, refused, early, line, first, decided, done_by}
+use Rattle.machine_model.specs.Places.{node_at, dominates_node, node_dominates}
+use Rattle.machine_model.specs.FileCalls.{file_at, holds_of, may_not_read, may_not_write, read_at, write_at}
 use Rattle.machine_model.specs.Step.{has_no_process, row, step}
 use Rattle.machine_model.specs.Stands.{TagsWithin, Within}
 use Rattle.machine_model.specs.Run.{Throughout}
-use Rattle.machine_model.specs.Laws.{Refuses, Revokes, Denies, ObeysLaws, has_tag, uses_dead, answers_bytes, IsDeadRead, IsDeadWrite, uses_revoked}
+use Rattle.machine_model.specs.Uses.{reads, writes, use_of}
+use Rattle.machine_model.specs.Laws.{Refuses, Revokes, Denies, UsesLabels, IsLabelled, ObeysLaws, has_tag, uses_dead, answers_bytes, IsDeadRead, IsDeadWrite, uses_revoked}
 use Rattle.machine_model.proofs.Within.{Within-step, Within-boot}
+use Rattle.machine_model.proofs.Origins.{opened_well}
 
 -- an answer that is no refusal is none
 answered_plain : (g : Given) (rule : Rule) → decided None g ≡ Answer (Denied rule) → ⊥
 answered_plain (number n) rule h = cc
 answered_plain (bytes bs) rule h = cc
+answered_plain (text t) rule h = cc
 answered_plain gone rule h = cc
 answered_plain (taken bs) rule h = cc
 answered_plain noted rule h = cc
@@ -78,6 +82,7 @@ write_stops false false more = record { outcome = refused Dead; is = refl; answe
 answers_no_bytes : (d : Decision) → IsDeadRead d → answers_bytes d ≡ false
 answers_no_bytes (Answer (Num n)) h = absurd h
 answers_no_bytes (Answer (Bytes bs)) h = rw h refl
+answers_no_bytes (Answer (Text t)) h = absurd h
 answers_no_bytes (Answer (Denied rule)) h = refl
 answers_no_bytes (Answer Gone) h = refl
 answers_no_bytes (Taken bs) h = absurd h
@@ -93,61 +98,202 @@ dead_file : (file : Option OpenFile) → holds_of (λ f. f.dead) file ≡ true �
 dead_file None h = cc
 dead_file (Some f) h = record { its = f; is = refl; dead = h }
 
-denies_read : (s : State) (n slot fd max : ℕ) → Within n s → uses_dead s fd ≡ true → Denies s (n + 1) slot (Read fd max)
+-- the lines of a read, by the file of its number
+abbrev read_lines : View → ℕ → ℕ → ℕ → Option OpenFile → List (Option Outcome)
+read_lines v slot fd max file =
+    line (has_no_process slot) (early gone) ∷ line (ltb 512 max) (refused Size) ∷ line (is_none file) (refused BadFd)
+    ∷ line (holds_of (λ f. not f.file.readable) file) (refused FdMode) ∷ line (holds_of (λ f. f.dead) file) (early (bytes []))
+    ∷ line (holds_of (may_not_read v) file) (refused LabelRead) ∷ line (eqb max 0) (early (bytes [])) ∷ (read_at v fd max file).lines
+
+abbrev write_lines : View → ℕ → ℕ → List ℕ → Option OpenFile → List (Option Outcome)
+write_lines v slot fd bs file =
+    line (has_no_process slot) (early gone) ∷ line (is_none file) (refused BadFd)
+    ∷ line (holds_of (λ f. not f.file.writable) file) (refused FdMode) ∷ line (holds_of (λ f. f.dead) file) (refused Dead)
+    ∷ line (holds_of (may_not_write v) file) (refused LabelWrite) ∷ line (eqb (length bs) 0) (early (number 0)) ∷ (write_at v fd bs file).lines
+
+denies_read : (s : State) (n slot fd max : ℕ) → Within n s → uses_dead s fd ≡ true → Denies s (n + 1) (event.Call slot (call.Read fd max)) (reads fd)
 denies_read s n slot fd max h dead =
-    let e = event.Call slot (Read fd max) in
+    let e = event.Call slot (call.Read fd max) in
+    let v = view s in
     let found = dead_file (look_at s (get_or s.descriptors fd None)) dead in
-    let here : file_at (view s) fd ≡ Some found.its = seen_file s fd ∙ found.is in
-    let rest : List (Option Outcome) = line (eqb max 0) (early (bytes [])) ∷ line (eqb (length (view s).line.input) 0) (refused NotReady) ∷ [] in
-    let stops = read_stops (has_no_process slot) (ltb 512 max) (not found.its.readable) rest in
-    let lines : first (row (view s) e).lines ≡ Some stops.outcome =
-    ap (λ file. first (line (has_no_process slot) (early gone) ∷ line (ltb 512 max) (refused Size) ∷ line (is_none file) (refused BadFd) ∷ line (holds_of (λ f. not f.readable) file) (refused FdMode) ∷ line (holds_of (λ f. f.dead) file) (early (bytes [])) ∷ rest)) here
-    ∙ ap (λ b. first (line (has_no_process slot) (early gone) ∷ line (ltb 512 max) (refused Size) ∷ line false (refused BadFd) ∷ line (not found.its.readable) (refused FdMode) ∷ line b (early (bytes [])) ∷ rest)) found.dead
+    let here : file_at v fd ≡ Some found.its = seen_file s fd ∙ found.is in
+    let f = found.its in
+    let rest : List (Option Outcome) = line (may_not_read v f) (refused LabelRead) ∷ line (eqb max 0) (early (bytes [])) ∷ (read_at v fd max (Some f)).lines in
+    let stops = read_stops (has_no_process slot) (ltb 512 max) (not f.file.readable) rest in
+    let lines : first (row v e).lines ≡ Some stops.outcome =
+    ap (λ file. first (read_lines v slot fd max file)) here
+    ∙ ap (λ b. first (line (has_no_process slot) (early gone) ∷ line (ltb 512 max) (refused Size) ∷ line false (refused BadFd) ∷ line (not f.file.readable) (refused FdMode) ∷ line b (early (bytes [])) ∷ rest)) found.dead
     ∙ stops.is in
-    let answer : IsDeadRead (step s (n + 1) e).1 = subst (λ o. IsDeadRead (decided o (row (view s) e).answer)) (sym lines) (stops.answer (row (view s) e).answer) in
+    let answer : IsDeadRead (step s (n + 1) e).1 = subst (λ o. IsDeadRead (decided o (row v e).answer)) (sym lines) (stops.answer (row v e).answer) in
     record {
       moves = answers_no_bytes (step s (n + 1) e).1 answer;
-      line = ap (λ o. (tag_all s (n + 1) (done_by o (row (view s) e).effects)).line) lines;
+      line = ap (λ o. (tag_all s (n + 1) (done_by o (row v e).effects)).line) lines;
       answer = answer;
     }
 
-denies_write : (s : State) (n slot fd : ℕ) (bs : List ℕ) → Within n s → uses_dead s fd ≡ true → Denies s (n + 1) slot (Write fd bs)
+denies_write : (s : State) (n slot fd : ℕ) (bs : List ℕ) → Within n s → uses_dead s fd ≡ true → Denies s (n + 1) (event.Call slot (call.Write fd bs)) (writes fd)
 denies_write s n slot fd bs h dead =
-    let e = event.Call slot (Write fd bs) in
+    let e = event.Call slot (call.Write fd bs) in
+    let v = view s in
     let found = dead_file (look_at s (get_or s.descriptors fd None)) dead in
-    let here : file_at (view s) fd ≡ Some found.its = seen_file s fd ∙ found.is in
-    let rest : List (Option Outcome) = line (eqb (length bs) 0) (early (number 0)) ∷ line (leb 4096 (length (view s).line.output)) (refused NotReady) ∷ [] in
-    let stops = write_stops (has_no_process slot) (not found.its.writable) rest in
-    let lines : first (row (view s) e).lines ≡ Some stops.outcome =
-    ap (λ file. first (line (has_no_process slot) (early gone) ∷ line (is_none file) (refused BadFd) ∷ line (holds_of (λ f. not f.writable) file) (refused FdMode) ∷ line (holds_of (λ f. f.dead) file) (refused Dead) ∷ rest)) here
-    ∙ ap (λ b. first (line (has_no_process slot) (early gone) ∷ line false (refused BadFd) ∷ line (not found.its.writable) (refused FdMode) ∷ line b (refused Dead) ∷ rest)) found.dead
+    let here : file_at v fd ≡ Some found.its = seen_file s fd ∙ found.is in
+    let f = found.its in
+    let rest : List (Option Outcome) = line (may_not_write v f) (refused LabelWrite) ∷ line (eqb (length bs) 0) (early (number 0)) ∷ (write_at v fd bs (Some f)).lines in
+    let stops = write_stops (has_no_process slot) (not f.file.writable) rest in
+    let lines : first (row v e).lines ≡ Some stops.outcome =
+    ap (λ file. first (write_lines v slot fd bs file)) here
+    ∙ ap (λ b. first (line (has_no_process slot) (early gone) ∷ line false (refused BadFd) ∷ line (not f.file.writable) (refused FdMode) ∷ line b (refused Dead) ∷ rest)) found.dead
     ∙ stops.is in
-    let same : (step s (n + 1) e).0 ≡ s = ap (λ o. tag_all s (n + 1) (done_by o (row (view s) e).effects)) lines in
+    let same : (step s (n + 1) e).0 ≡ s = ap (λ o. tag_all s (n + 1) (done_by o (row v e).effects)) lines in
     record {
       moves = ap (λ (t : State). has_tag (n + 1) t.line.output) same ∙ untagged n s.line.output h.output;
       line = ap (λ (t : State). t.line) same;
-      answer = subst (λ o. IsDeadWrite (decided o (row (view s) e).answer)) (sym lines) (stops.answer (row (view s) e).answer);
+      answer = subst (λ o. IsDeadWrite (decided o (row v e).answer)) (sym lines) (stops.answer (row v e).answer);
     }
 
-denies : (s : State) (n slot : ℕ) (c : Call) → Within n s → uses_revoked s c ≡ true → Denies s (n + 1) slot c
-denies s n slot (Open path access flags mode) h dead = cc
-denies s n slot (Close fd) h dead = cc
-denies s n slot (Read fd max) h dead = denies_read s n slot fd max h dead
-denies s n slot (Write fd bs) h dead = denies_write s n slot fd bs h dead
-denies s n slot (Revoke path) h dead = cc
+revokes_call : (s : State) (n slot : ℕ) (c : Call) → Within n s → uses_revoked s (use_of c) ≡ true → Denies s (n + 1) (event.Call slot c) (use_of c)
+revokes_call s n slot (call.Open path access flags mode) h dead = cc
+revokes_call s n slot (call.Close fd) h dead = cc
+revokes_call s n slot (call.Read fd max) h dead = denies_read s n slot fd max h dead
+revokes_call s n slot (call.Write fd bs) h dead = denies_write s n slot fd bs h dead
+revokes_call s n slot (call.Chdir path) h dead = cc
+revokes_call s n slot (call.Mkdir path mode) h dead = cc
+revokes_call s n slot (call.Rmdir path) h dead = cc
+revokes_call s n slot (call.Unlink path) h dead = cc
+revokes_call s n slot (call.List path from) h dead = cc
+revokes_call s n slot (call.Info path) h dead = cc
+revokes_call s n slot (call.Chmod path mode) h dead = cc
+revokes_call s n slot (call.Chown path uid gid) h dead = cc
+revokes_call s n slot (call.SetAcl path which entries) h dead = cc
+revokes_call s n slot (call.GetAcl path which) h dead = cc
+revokes_call s n slot (call.SetLabel path element) h dead = cc
+revokes_call s n slot (call.GetLabel path) h dead = cc
+revokes_call s n slot (call.SetCred cred) h dead = cc
+revokes_call s n slot (call.SetProcLabel subject) h dead = cc
+revokes_call s n slot (call.Umask mode) h dead = cc
+revokes_call s n slot call.Ident h dead = cc
+revokes_call s n slot (call.Revoke path) h dead = cc
 
 revokes : (s : State) (n : ℕ) (e : Event) → Within n s → Revokes s (n + 1) e
-revokes s n (event.Call slot call) h = λ dead. denies s n slot call h dead
+revokes s n (event.Call slot c) h = λ dead. revokes_call s n slot c h dead
 revokes s n (event.Byte tty b) h = tt
 revokes s n (event.Take tty max) h = tt
+
+-- a read that a label denies answers no bytes
+unread : (left big unreadable : Bool) (more : List (Option Outcome)) (g : Given) (bs : List ℕ) → decided (first (line left (early gone) ∷ line big (refused Size) ∷ line false (refused BadFd) ∷ line unreadable (refused FdMode) ∷ line false (early (bytes [])) ∷ line true (refused LabelRead) ∷ more)) g ≡ Answer (Bytes bs) → ⊥
+unread true big unreadable more g bs h = cc
+unread false true unreadable more g bs h = cc
+unread false false true more g bs h = cc
+unread false false false more g bs h = cc
+
+unwritten : (left unwritable : Bool) (more : List (Option Outcome)) (g : Given) (n : ℕ) → decided (first (line left (early gone) ∷ line false (refused BadFd) ∷ line unwritable (refused FdMode) ∷ line false (refused Dead) ∷ line true (refused LabelWrite) ∷ more)) g ≡ Answer (Num n) → ⊥
+unwritten true unwritable more g n h = cc
+unwritten false true more g n h = cc
+unwritten false false more g n h = cc
+
+rechecks_read : (s : State) (p slot fd max : ℕ) (f : OpenFile) (bs : List ℕ) → s.recheck ≡ true → file_at (view s) fd ≡ Some f → f.dead ≡ false → (step s p (event.Call slot (call.Read fd max))).1 ≡ Answer (Bytes bs) → dominates_node (view s) (node_at (view s) f.file.path) ≡ true
+rechecks_read s p slot fd max f bs on here live answer =
+    let v = view s in
+    let e = event.Call slot (call.Read fd max) in
+    let rest : List (Option Outcome) = line (eqb max 0) (early (bytes [])) ∷ (read_at v fd max (Some f)).lines in
+    let lines : first (row v e).lines ≡ first (line (has_no_process slot) (early gone) ∷ line (ltb 512 max) (refused Size) ∷ line false (refused BadFd) ∷ line (not f.file.readable) (refused FdMode) ∷ line false (early (bytes [])) ∷ line (may_not_read v f) (refused LabelRead) ∷ rest) =
+    ap (λ file. first (read_lines v slot fd max file)) here
+    ∙ ap (λ b. first (line (has_no_process slot) (early gone) ∷ line (ltb 512 max) (refused Size) ∷ line false (refused BadFd) ∷ line (not f.file.readable) (refused FdMode) ∷ line b (early (bytes [])) ∷ line (may_not_read v f) (refused LabelRead) ∷ rest)) live in
+    elim (dominates_node v (node_at v f.file.path)) as (λ d. dominates_node v (node_at v f.file.path) ≡ d → d ≡ true) [
+      | true ↦ λ is. refl
+      | false ↦ λ is. absurd (
+          let denied : may_not_read v f ≡ true = rw (on, is) refl in
+          unread (has_no_process slot) (ltb 512 max) (not f.file.readable) rest (row v e).answer bs
+          (ap (λ o. decided o (row v e).answer) (sym (lines ∙ ap (λ b. first (line (has_no_process slot) (early gone) ∷ line (ltb 512 max) (refused Size) ∷ line false (refused BadFd) ∷ line (not f.file.readable) (refused FdMode) ∷ line false (early (bytes [])) ∷ line b (refused LabelRead) ∷ rest)) denied)) ∙ answer))
+    ] refl
+
+rechecks_write : (s : State) (p slot fd : ℕ) (bs : List ℕ) (f : OpenFile) (n : ℕ) → s.recheck ≡ true → file_at (view s) fd ≡ Some f → f.dead ≡ false → (step s p (event.Call slot (call.Write fd bs))).1 ≡ Answer (Num n) → node_dominates (view s) (node_at (view s) f.file.path) ≡ true
+rechecks_write s p slot fd bs f n on here live answer =
+    let v = view s in
+    let e = event.Call slot (call.Write fd bs) in
+    let rest : List (Option Outcome) = line (eqb (length bs) 0) (early (number 0)) ∷ (write_at v fd bs (Some f)).lines in
+    let lines : first (row v e).lines ≡ first (line (has_no_process slot) (early gone) ∷ line false (refused BadFd) ∷ line (not f.file.writable) (refused FdMode) ∷ line false (refused Dead) ∷ line (may_not_write v f) (refused LabelWrite) ∷ rest) =
+    ap (λ file. first (write_lines v slot fd bs file)) here
+    ∙ ap (λ b. first (line (has_no_process slot) (early gone) ∷ line false (refused BadFd) ∷ line (not f.file.writable) (refused FdMode) ∷ line b (refused Dead) ∷ line (may_not_write v f) (refused LabelWrite) ∷ rest)) live in
+    elim (node_dominates v (node_at v f.file.path)) as (λ d. node_dominates v (node_at v f.file.path) ≡ d → d ≡ true) [
+      | true ↦ λ is. refl
+      | false ↦ λ is. absurd (
+          let denied : may_not_write v f ≡ true = rw (on, is) refl in
+          unwritten (has_no_process slot) (not f.file.writable) rest (row v e).answer n
+          (ap (λ o. decided o (row v e).answer) (sym (lines ∙ ap (λ b. first (line (has_no_process slot) (early gone) ∷ line false (refused BadFd) ∷ line (not f.file.writable) (refused FdMode) ∷ line false (refused Dead) ∷ line b (refused LabelWrite) ∷ rest)) denied)) ∙ answer))
+    ] refl
+
+-- a read through a file that may not be read answers no bytes
+no_mode : (left big : Bool) (more : List (Option Outcome)) (g : Given) (bs : List ℕ) → decided (first (line left (early gone) ∷ line big (refused Size) ∷ line false (refused BadFd) ∷ line true (refused FdMode) ∷ more)) g ≡ Answer (Bytes bs) → ⊥
+no_mode true big more g bs h = cc
+no_mode false true more g bs h = cc
+no_mode false false more g bs h = cc
+
+no_write_mode : (left : Bool) (more : List (Option Outcome)) (g : Given) (n : ℕ) → decided (first (line left (early gone) ∷ line false (refused BadFd) ∷ line true (refused FdMode) ∷ more)) g ≡ Answer (Num n) → ⊥
+no_write_mode true more g n h = cc
+no_write_mode false more g n h = cc
+
+read_mode : (s : State) (p slot fd max : ℕ) (f : OpenFile) (bs : List ℕ) → file_at (view s) fd ≡ Some f → (step s p (event.Call slot (call.Read fd max))).1 ≡ Answer (Bytes bs) → f.file.readable ≡ true
+read_mode s p slot fd max f bs here answer =
+    let v = view s in
+    let e = event.Call slot (call.Read fd max) in
+    let rest : List (Option Outcome) = line f.dead (early (bytes [])) ∷ line (may_not_read v f) (refused LabelRead) ∷ line (eqb max 0) (early (bytes [])) ∷ (read_at v fd max (Some f)).lines in
+    elim f.file.readable as (λ r. f.file.readable ≡ r → r ≡ true) [
+      | true ↦ λ is. refl
+      | false ↦ λ is. absurd (no_mode (has_no_process slot) (ltb 512 max) rest (row v e).answer bs
+          (ap (λ o. decided o (row v e).answer) (sym (ap (λ file. first (read_lines v slot fd max file)) here
+          ∙ ap (λ b. first (line (has_no_process slot) (early gone) ∷ line (ltb 512 max) (refused Size) ∷ line false (refused BadFd) ∷ line (not b) (refused FdMode) ∷ rest)) is)) ∙ answer))
+    ] refl
+
+write_mode : (s : State) (p slot fd : ℕ) (bs : List ℕ) (f : OpenFile) (n : ℕ) → file_at (view s) fd ≡ Some f → (step s p (event.Call slot (call.Write fd bs))).1 ≡ Answer (Num n) → f.file.writable ≡ true
+write_mode s p slot fd bs f n here answer =
+    let v = view s in
+    let e = event.Call slot (call.Write fd bs) in
+    let rest : List (Option Outcome) = line f.dead (refused Dead) ∷ line (may_not_write v f) (refused LabelWrite) ∷ line (eqb (length bs) 0) (early (number 0)) ∷ (write_at v fd bs (Some f)).lines in
+    elim f.file.writable as (λ r. f.file.writable ≡ r → r ≡ true) [
+      | true ↦ λ is. refl
+      | false ↦ λ is. absurd (no_write_mode (has_no_process slot) rest (row v e).answer n
+          (ap (λ o. decided o (row v e).answer) (sym (ap (λ file. first (write_lines v slot fd bs file)) here
+          ∙ ap (λ b. first (line (has_no_process slot) (early gone) ∷ line false (refused BadFd) ∷ line (not b) (refused FdMode) ∷ rest)) is)) ∙ answer))
+    ] refl
+
+uses_labels : (s : State) (p slot : ℕ) (c : Call) → UsesLabels s p (event.Call slot c) (use_of c)
+uses_labels s p slot (call.Open path access flags mode) = tt
+uses_labels s p slot (call.Close fd) = tt
+uses_labels s p slot (call.Read fd max) = λ f bs here live answer. (read_mode s p slot fd max f bs here answer, λ on. rechecks_read s p slot fd max f bs on here live answer)
+uses_labels s p slot (call.Write fd bs) = λ f n here live answer. (write_mode s p slot fd bs f n here answer, λ on. rechecks_write s p slot fd bs f n on here live answer)
+uses_labels s p slot (call.Chdir path) = tt
+uses_labels s p slot (call.Mkdir path mode) = tt
+uses_labels s p slot (call.Rmdir path) = tt
+uses_labels s p slot (call.Unlink path) = tt
+uses_labels s p slot (call.List path from) = tt
+uses_labels s p slot (call.Info path) = tt
+uses_labels s p slot (call.Chmod path mode) = tt
+uses_labels s p slot (call.Chown path uid gid) = tt
+uses_labels s p slot (call.SetAcl path which entries) = tt
+uses_labels s p slot (call.GetAcl path which) = tt
+uses_labels s p slot (call.SetLabel path element) = tt
+uses_labels s p slot (call.GetLabel path) = tt
+uses_labels s p slot (call.SetCred cred) = tt
+uses_labels s p slot (call.SetProcLabel subject) = tt
+uses_labels s p slot (call.Umask mode) = tt
+uses_labels s p slot call.Ident = tt
+uses_labels s p slot (call.Revoke path) = tt
+
+labelled : (s : State) (n : ℕ) (e : Event) → Within n s → IsLabelled s (n + 1) e
+labelled s n (event.Call slot c) h = uses_labels s (n + 1) slot c
+labelled s n (event.Byte tty b) h = tt
+labelled s n (event.Take tty max) h = tt
 
 -- what holds of each event of a state within its position holds throughout a run
 throughout : (P : State → ℕ → Event → Type 0) → ((s : State) (n : ℕ) (e : Event) → Within n s → P s (n + 1) e) → (es : List Event) (s : State) (n : ℕ) → Within n s → Throughout P s (n + 1) es
 throughout P holds [] s n h = tt
 throughout P holds (e ∷ es) s n h = (holds s n e h, throughout P holds es (step s (n + 1) e).0 (n + 1) (Within-step n s e h))
 
-pub obeys : (es : List Event) → ObeysLaws es
-obeys es = record {
-  refusal = throughout Refuses (λ s n e h. refuses s (n + 1) e) es boot 0 Within-boot;
-  revocation = throughout Revokes revokes es boot 0 Within-boot;
+pub obeys : (says : Boot) (es : List Event) → ObeysLaws says es
+obeys says es = record {
+  refusal = throughout Refuses (λ s n e h. refuses s (n + 1) e) es (boot says) 0 (Within-boot says);
+  revocation = throughout Revokes revokes es (boot says) 0 (Within-boot says);
+  labels = throughout IsLabelled labelled es (boot says) 0 (Within-boot says);
+  origins = opened_well says es;
 }

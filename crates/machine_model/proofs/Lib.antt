@@ -1,6 +1,8 @@
-mod WorkedRows
 pub mod Within
 pub mod SeenSteps
 pub mod SeenRuns
-pub mod Lawful
 pub mod Waking
+mod Labelled
+mod Origins
+pub mod Lawful
+mod WorkedRows

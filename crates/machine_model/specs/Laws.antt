@@ -1,21 +1,23 @@
 -- Laws of a run: of each of its events, with the state before it and its position.
 use Rattle.std.specs.Prelude.{◌≡◌, ℕ, Bool, true, false, not, ◌==◌, ◌⊎◌, List, [], length, slice_index_or, Some, None}
 use Rattle.std.specs.List.{list_any}
-use Rattle.call_words.specs.declared.calls.Call.{Call}
-use Rattle.call_words.specs.declared.calls.Call.TheVariants.{Open, Close, Read, Write, Revoke}
 use Rattle.call_words.specs.declared.rules.Rule.{Rule}
 use Rattle.call_words.specs.declared.rules.Rule.TheVariants.{Size, FdMode, Dead}
 use Rattle.call_words.specs.declared.events.Event.{Event}
 use Rattle.call_words.specs.declared.events.Event.TheVariants as event
-use Rattle.call_words.specs.declared.events.Reply.TheVariants.{Num, Bytes, Denied, Gone}
+use Rattle.call_words.specs.declared.events.Reply.TheVariants.{Num, Bytes, Text, Denied, Gone}
 use Rattle.call_words.specs.declared.events.Decision.{Decision}
 use Rattle.call_words.specs.declared.events.Decision.TheVariants.{Answer, Taken, Noted}
-use Rattle.machine_model.specs.State.{Tagged, State, boot}
-use Rattle.machine_model.specs.View.{view, look_at}
+use Rattle.user_db.specs.declared.boot.Boot.{Boot}
+use Rattle.machine_model.specs.State.{Tagged, File, State, boot}
+use Rattle.machine_model.specs.View.{OpenFile, View, view, find, look_at}
+use Rattle.machine_model.specs.Effects.{opened}
 use Rattle.machine_model.specs.Rows.{first, refused}
-use Rattle.machine_model.specs.FileCalls.{holds_of}
+use Rattle.machine_model.specs.Places.{node_at, dominates_node, node_dominates}
+use Rattle.machine_model.specs.FileCalls.{file_at, holds_of}
+use Rattle.machine_model.specs.Uses.{Use, reads, writes, neither, use_of}
 use Rattle.machine_model.specs.Step.{row, step}
-use Rattle.machine_model.specs.Run.{Throughout}
+use Rattle.machine_model.specs.Run.{state_after, Throughout}
 
 -- Each refusal names the first rule that denies, and changes nothing.
 pub record Refuses (s : State) (p : ℕ) (e : Event) : Type 0 where
@@ -29,6 +31,7 @@ uses_dead s fd = holds_of (λ file. file.dead) (look_at s (slice_index_or s.desc
 abbrev pub answers_bytes : Decision → Bool
 answers_bytes (Answer (Num n)) = false
 answers_bytes (Answer (Bytes bs)) = not (length bs == 0)
+answers_bytes (Answer (Text t)) = false
 answers_bytes (Answer (Denied rule)) = false
 answers_bytes (Answer Gone) = false
 answers_bytes (Taken bs) = false
@@ -37,20 +40,19 @@ answers_bytes Noted = false
 abbrev pub has_tag : ℕ → List Tagged → Bool
 has_tag p cells = list_any (λ c. c.brought == p) cells
 
--- The call at p moves a byte of the line: it is a read that answers a byte, or a write that
+-- The event at p moves a byte of the line: it is a read that answers a byte, or a write that
 -- puts a byte with the tag p into the line's output.
-abbrev pub moves_byte : State → ℕ → ℕ → Call → Bool
-moves_byte s p slot (Open path access flags mode) = false
-moves_byte s p slot (Close fd) = false
-moves_byte s p slot (Read fd max) = answers_bytes (step s p (event.Call slot (Read fd max))).1
-moves_byte s p slot (Write fd bs) = has_tag p (step s p (event.Call slot (Write fd bs))).0.line.output
-moves_byte s p slot (Revoke path) = false
+abbrev pub moves_byte : State → ℕ → Event → Use → Bool
+moves_byte s p e (reads fd) = answers_bytes (step s p e).1
+moves_byte s p e (writes fd) = has_tag p (step s p e).0.line.output
+moves_byte s p e neither = false
 
 -- a read of a dead file answers no bytes, unless a rule before that denies it or the slot has
 -- no process
 abbrev pub IsDeadRead : Decision → Type 0
 IsDeadRead (Answer (Num n)) = ⊥
 IsDeadRead (Answer (Bytes bs)) = bs ≡ []
+IsDeadRead (Answer (Text t)) = ⊥
 IsDeadRead (Answer (Denied rule)) = (rule ≡ Size) ⊎ (rule ≡ FdMode)
 IsDeadRead (Answer Gone) = Unit {0}
 IsDeadRead (Taken bs) = ⊥
@@ -60,39 +62,62 @@ IsDeadRead Noted = ⊥
 abbrev pub IsDeadWrite : Decision → Type 0
 IsDeadWrite (Answer (Num n)) = ⊥
 IsDeadWrite (Answer (Bytes bs)) = ⊥
+IsDeadWrite (Answer (Text t)) = ⊥
 IsDeadWrite (Answer (Denied rule)) = (rule ≡ Dead) ⊎ (rule ≡ FdMode)
 IsDeadWrite (Answer Gone) = Unit {0}
 IsDeadWrite (Taken bs) = ⊥
 IsDeadWrite Noted = ⊥
 
-abbrev pub DeadAnswer : Call → Decision → Type 0
-DeadAnswer (Open path access flags mode) d = Unit {0}
-DeadAnswer (Close fd) d = Unit {0}
-DeadAnswer (Read fd max) d = IsDeadRead d
-DeadAnswer (Write fd bs) d = IsDeadWrite d
-DeadAnswer (Revoke path) d = Unit {0}
+abbrev pub DeadAnswer : Use → Decision → Type 0
+DeadAnswer (reads fd) d = IsDeadRead d
+DeadAnswer (writes fd) d = IsDeadWrite d
+DeadAnswer neither d = Unit {0}
 
 -- the number that a call reads or writes through is that of a dead file
-abbrev pub uses_revoked : State → Call → Bool
-uses_revoked s (Open path access flags mode) = false
-uses_revoked s (Close fd) = false
-uses_revoked s (Read fd max) = uses_dead s fd
-uses_revoked s (Write fd bs) = uses_dead s fd
-uses_revoked s (Revoke path) = false
+abbrev pub uses_revoked : State → Use → Bool
+uses_revoked s (reads fd) = uses_dead s fd
+uses_revoked s (writes fd) = uses_dead s fd
+uses_revoked s neither = false
 
 -- Through a file that was opened before the line's last revoke no byte of the line moves, and
 -- the line stays as it was.
-pub record Denies (s : State) (p slot : ℕ) (call : Call) : Type 0 where
-  pub moves : moves_byte s p slot call ≡ false
-  pub line : (step s p (event.Call slot call)).0.line ≡ s.line
-  pub answer : DeadAnswer call (step s p (event.Call slot call)).1
+pub record Denies (s : State) (p : ℕ) (e : Event) (used : Use) : Type 0 where
+  pub moves : moves_byte s p e used ≡ false
+  pub line : (step s p e).0.line ≡ s.line
+  pub answer : DeadAnswer used (step s p e).1
 
 abbrev pub Revokes : State → ℕ → Event → Type 0
-Revokes s p (event.Call slot call) = uses_revoked s call ≡ true → Denies s p slot call
+Revokes s p (event.Call slot c) = uses_revoked s (use_of c) ≡ true → Denies s p (event.Call slot c) (use_of c)
 Revokes s p (event.Byte tty b) = Unit {0}
 Revokes s p (event.Take tty max) = Unit {0}
 
--- Both laws, of every event of a run from boot.
-pub record ObeysLaws (es : List Event) : Type 0 where
-  pub refusal : Throughout Refuses boot 1 es
-  pub revocation : Throughout Revokes boot 1 es
+-- Bytes are read through a file that is not dead only where it may be read, and a count is answered to a write only where it may be
+-- written. Where labels are looked at again, the caller's active element then dominates the element of what the file is of, and
+-- for a write the other way round (mac_mls(4)).
+abbrev pub UsesLabels : State → ℕ → Event → Use → Type 0
+UsesLabels s p e (reads fd) = (f : OpenFile) (bs : List ℕ) → file_at (view s) fd ≡ Some f → f.dead ≡ false → (step s p e).1 ≡ Answer (Bytes bs) → (f.file.readable ≡ true) × (s.recheck ≡ true → dominates_node (view s) (node_at (view s) f.file.path) ≡ true)
+UsesLabels s p e (writes fd) = (f : OpenFile) (n : ℕ) → file_at (view s) fd ≡ Some f → f.dead ≡ false → (step s p e).1 ≡ Answer (Num n) → (f.file.writable ≡ true) × (s.recheck ≡ true → node_dominates (view s) (node_at (view s) f.file.path) ≡ true)
+UsesLabels s p e neither = Unit {0}
+
+-- The file of a number may be read only where the caller's active element dominates that of what it is of, and written only the
+-- other way round.
+pub record IsOpenedWell (v : View) (f : OpenFile) : Type 0 where
+  pub reads : f.file.readable ≡ true → dominates_node v (node_at v f.file.path) ≡ true
+  pub writes : f.file.writable ≡ true → node_dominates v (node_at v f.file.path) ≡ true
+
+abbrev pub IsLabelled : State → ℕ → Event → Type 0
+IsLabelled s p (event.Call slot c) = UsesLabels s p (event.Call slot c) (use_of c)
+IsLabelled s p (event.Byte tty b) = Unit {0}
+IsLabelled s p (event.Take tty max) = Unit {0}
+
+-- An open file is named by the position of the open that made it. At every moment of a run each of them was opened well: in the
+-- state after that open the elements dominated for what the file may be used for, and for the process that asked the open.
+pub record AreOpenedWell (says : Boot) (es : List Event) : Type 0 where
+  pub each : (n name : ℕ) (f : File) → find name (state_after says es n).files ≡ Some f → IsOpenedWell (view (state_after says es name)) (opened f)
+
+-- The laws, of every event of a run from a boot.
+pub record ObeysLaws (says : Boot) (es : List Event) : Type 0 where
+  pub refusal : Throughout Refuses (boot says) 1 es
+  pub revocation : Throughout Revokes (boot says) 1 es
+  pub labels : Throughout IsLabelled (boot says) 1 es
+  pub origins : AreOpenedWell says es

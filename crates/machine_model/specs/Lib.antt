@@ -2,8 +2,13 @@ pub mod State
 pub mod View
 pub mod Effects
 pub mod Rows
+pub mod Places
 pub mod FileCalls
+pub mod PathCalls
+pub mod NodeCalls
+pub mod CallerCalls
 pub mod LineCalls
+pub mod Uses
 pub mod Step
 pub mod Run
 pub mod Stands

@@ -1,7 +1,7 @@
 -- A row: for an event its lines in order, and what it does and answers where none of them holds.
-use Rattle.std.specs.Prelude.{◌≡◌, ℕ, Bool, List, [], ◌∷◌, Option, Some, None, if◌then◌else◌}
+use Rattle.std.specs.Prelude.{◌≡◌, ℕ, Bool, List, [], ◌∷◌, ◌++◌, Option, Some, None, option_map, if◌then◌else◌}
 use Rattle.call_words.specs.declared.rules.Rule.{Rule}
-use Rattle.call_words.specs.declared.events.Reply.TheVariants.{Num, Bytes, Denied, Gone}
+use Rattle.call_words.specs.declared.events.Reply.TheVariants.{Num, Bytes, Text, Denied, Gone}
 use Rattle.call_words.specs.declared.events.Decision.{Decision}
 use Rattle.call_words.specs.declared.events.Decision.TheVariants.{Answer, Taken, Noted}
 use Rattle.machine_model.specs.View.{View}
@@ -11,6 +11,7 @@ use Rattle.machine_model.specs.Effects.{Effect, change_all}
 pub data Given : Type 0 where
   number : ℕ → Given
   bytes : List ℕ → Given
+  text : List ℕ → Given
   gone : Given
   taken : List ℕ → Given
   noted : Given
@@ -24,10 +25,22 @@ pub data Outcome : Type 0 where
 abbrev pub line : Bool → Outcome → Option Outcome
 line condition outcome = if condition then Some outcome else None
 
+-- a line whose rule is looked up
+abbrev pub denied_by : Option Rule → Option Outcome
+denied_by rule = option_map (λ r. refused r) rule
+
 pub record Row : Type 0 where
   pub lines : List (Option Outcome)
   pub effects : List Effect
   pub answer : Given
+
+-- a row with lines in front
+abbrev pub behind : List (Option Outcome) → Row → Row
+behind lines row = record row { lines = lines ++ row.lines }
+
+-- a row that no event comes to, since a line in front of it holds
+abbrev pub no_row : Row
+no_row = record { lines = []; effects = []; answer = noted }
 
 -- the first line whose condition holds
 abbrev pub first : List (Option Outcome) → Option Outcome
@@ -38,6 +51,7 @@ first (Some outcome ∷ ls) = Some outcome
 abbrev pub answered : Given → Decision
 answered (number n) = Answer (Num n)
 answered (bytes bs) = Answer (Bytes bs)
+answered (text t) = Answer (Text t)
 answered gone = Answer Gone
 answered (taken bs) = Taken bs
 answered noted = Noted

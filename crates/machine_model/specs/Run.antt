@@ -1,7 +1,8 @@
 -- Runs of the machine from boot.
-use Rattle.std.specs.Prelude.{ℕ, ◌+◌, List, [], ◌∷◌}
+use Rattle.std.specs.Prelude.{ℕ, ◌+◌, List, [], ◌∷◌, take}
 use Rattle.machine_model.specs.State.{State, boot}
 use Rattle.machine_model.specs.Step.{step}
+use Rattle.user_db.specs.declared.boot.Boot.{Boot}
 use Rattle.call_words.specs.declared.events.Event.{Event}
 use Rattle.call_words.specs.declared.events.Decision.{Decision}
 
@@ -10,8 +11,17 @@ abbrev pub decisions_from : State → ℕ → List Event → List Decision
 decisions_from s p [] = []
 decisions_from s p (e ∷ es) = (step s p e).1 ∷ decisions_from (step s p e).0 (p + 1) es
 
-abbrev pub decisions : List Event → List Decision
-decisions es = decisions_from boot 1 es
+abbrev pub decisions : Boot → List Event → List Decision
+decisions says es = decisions_from (boot says) 1 es
+
+-- the state after events, of which the first is at position p
+abbrev pub state_from : State → ℕ → List Event → State
+state_from s p [] = s
+state_from s p (e ∷ es) = state_from (step s p e).0 (p + 1) es
+
+-- the state of a run from a boot after its first n events
+abbrev pub state_after : Boot → List Event → ℕ → State
+state_after says es n = state_from (boot says) 1 (take n es)
 
 -- what holds of each event of a run, with the state before it and its position
 abbrev pub Throughout : (State → ℕ → Event → Type 0) → State → ℕ → List Event → Type 0

@@ -1,35 +1,55 @@
 -- A step of the machine.
-use Rattle.std.specs.Prelude.{ℕ, Bool, true, false, not, ◌==◌, List, [], ◌∷◌, length, if◌then◌else◌, codes, IsTrue}
+use Rattle.std.specs.Prelude.{ℕ, Option, is_none, Bool, true, false, not, ◌==◌, List, [], ◌∷◌, length, if◌then◌else◌, codes, IsTrue}
 use Rattle.std.specs.Str.{bytes_eq}
 use Rattle.call_words.specs.declared.limits.TheConstants.{RAW_LINE}
 use Rattle.call_words.specs.declared.text.TheConstants.{PIECE_BYTES}
 use Rattle.call_words.specs.declared.calls.Call.{Call}
-use Rattle.call_words.specs.declared.calls.Call.TheVariants.{Open, Close, Read, Write, Revoke}
+use Rattle.call_words.specs.declared.calls.Call.TheVariants as call
 use Rattle.call_words.specs.declared.events.Event.{Event}
 use Rattle.call_words.specs.declared.events.Event.TheVariants as event
 use Rattle.call_words.specs.declared.events.Decision.{Decision}
 use Rattle.call_words.specs.declared.events.Decision.TheVariants.{Answer, Taken, Noted}
 use Rattle.call_words.specs.Events.{MayBeUsed, WakeList}
 use Rattle.machine_model.specs.State.{State}
-use Rattle.machine_model.specs.View.{View, view}
+use Rattle.machine_model.specs.View.{OpenFile, View, view}
 use Rattle.machine_model.specs.Effects.{tag_all, change_all}
-use Rattle.machine_model.specs.Rows.{Row, line, early, gone, decision, done}
-use Rattle.machine_model.specs.FileCalls.{open_row, close_row, read_row, write_row}
+use Rattle.machine_model.specs.Rows.{Row, line, early, gone, behind, decision, done}
+use Rattle.machine_model.specs.PathCalls.{chdir_row, mkdir_row, rmdir_row, unlink_row, list_row, info_row}
+use Rattle.machine_model.specs.NodeCalls.{chmod_row, chown_row, setacl_row, getacl_row, setlabel_row, getlabel_row}
+use Rattle.machine_model.specs.CallerCalls.{setcred_row, setproclabel_row, umask_row, ident_row}
+use Rattle.machine_model.specs.FileCalls.{file_at, holds_of, open_row, close_row, read_row, write_row}
+use Rattle.machine_model.specs.Uses.{Use, reads, writes, neither, use_of}
 use Rattle.machine_model.specs.LineCalls.{revoke_row, byte_row, take_row}
 
 abbrev pub call_row : View → Call → Row
-call_row v (Open path access flags mode) = open_row v access flags
-call_row v (Close fd) = close_row v fd
-call_row v (Read fd max) = read_row v fd max
-call_row v (Write fd bytes) = write_row v fd bytes
-call_row v (Revoke path) = revoke_row
+call_row v (call.Open path access flags mode) = open_row v path access flags mode
+call_row v (call.Close fd) = close_row v fd
+call_row v (call.Read fd max) = read_row v fd max
+call_row v (call.Write fd bytes) = write_row v fd bytes
+call_row v (call.Chdir path) = chdir_row v path
+call_row v (call.Mkdir path mode) = mkdir_row v path mode
+call_row v (call.Rmdir path) = rmdir_row v path
+call_row v (call.Unlink path) = unlink_row v path
+call_row v (call.List path from) = list_row v path from
+call_row v (call.Info path) = info_row v path
+call_row v (call.Chmod path mode) = chmod_row v path mode
+call_row v (call.Chown path uid gid) = chown_row v path uid gid
+call_row v (call.SetAcl path which entries) = setacl_row v path which entries
+call_row v (call.GetAcl path which) = getacl_row v path which
+call_row v (call.SetLabel path element) = setlabel_row v path element
+call_row v (call.GetLabel path) = getlabel_row v path
+call_row v (call.SetCred cred) = setcred_row v cred
+call_row v (call.SetProcLabel subject) = setproclabel_row v subject
+call_row v (call.Umask mode) = umask_row v mode
+call_row v call.Ident = ident_row v
+call_row v (call.Revoke path) = revoke_row v path
 
 -- the one process runs in slot 0
 abbrev pub has_no_process : ℕ → Bool
 has_no_process slot = not (slot == 0)
 
 abbrev pub row : View → Event → Row
-row v (event.Call slot call) = let r = call_row v call in record r { lines = line (has_no_process slot) (early gone) ∷ r.lines }
+row v (event.Call slot c) = behind (line (has_no_process slot) (early gone) ∷ []) (call_row v c)
 row v (event.Byte tty b) = byte_row v b
 row v (event.Take tty max) = take_row v max
 
@@ -59,20 +79,51 @@ wakes v = record {
 abbrev pub tty7 : List ℕ
 tty7 = codes "/dev/tty7"
 
--- The calls that are built so far: of the paths that of line 7 alone.
+-- The calls that are built so far: all that there are words for, but of the revokes that of line 7 alone, by this path.
 abbrev pub is_built_call : Call → Bool
-is_built_call (Open path access flags mode) = bytes_eq path tty7
-is_built_call (Close fd) = true
-is_built_call (Read fd max) = true
-is_built_call (Write fd bytes) = true
-is_built_call (Revoke path) = bytes_eq path tty7
+is_built_call (call.Open path access flags mode) = true
+is_built_call (call.Close fd) = true
+is_built_call (call.Read fd max) = true
+is_built_call (call.Write fd bytes) = true
+is_built_call (call.Chdir path) = true
+is_built_call (call.Mkdir path mode) = true
+is_built_call (call.Rmdir path) = true
+is_built_call (call.Unlink path) = true
+is_built_call (call.List path from) = true
+is_built_call (call.Info path) = true
+is_built_call (call.Chmod path mode) = true
+is_built_call (call.Chown path uid gid) = true
+is_built_call (call.SetAcl path which entries) = true
+is_built_call (call.GetAcl path which) = true
+is_built_call (call.SetLabel path element) = true
+is_built_call (call.GetLabel path) = true
+is_built_call (call.SetCred cred) = true
+is_built_call (call.SetProcLabel subject) = true
+is_built_call (call.Umask mode) = true
+is_built_call call.Ident = true
+is_built_call (call.Revoke path) = bytes_eq path tty7
 
 -- The events that are built so far: of the lines line 7 alone.
 abbrev pub is_built : Event → Bool
-is_built (event.Call slot call) = is_built_call call
+is_built (event.Call slot c) = is_built_call c
 is_built (event.Byte tty b) = tty == RAW_LINE
 is_built (event.Take tty max) = tty == RAW_LINE
 
 -- what may be asked of the machine
 abbrev pub MayBeAsked : Event → Type 0
 MayBeAsked e = MayBeUsed e × IsTrue (is_built e)
+
+-- the file is a regular one
+abbrev pub is_regular : Option OpenFile → Bool
+is_regular file = holds_of (λ f. is_none f.file.tty) file
+
+abbrev pub wants_memory : View → Use → Bool
+wants_memory v (reads fd) = false
+wants_memory v (writes fd) = is_regular (file_at v fd)
+wants_memory v neither = false
+
+-- An event that may find no memory: a write to a regular file. All other events never want memory.
+abbrev pub may_want_memory : View → Event → Bool
+may_want_memory v (event.Call slot c) = wants_memory v (use_of c)
+may_want_memory v (event.Byte tty b) = false
+may_want_memory v (event.Take tty max) = false

@@ -7,12 +7,3 @@
 //! run. `proofs/` shows that the view steps as the state does, that the laws hold of every run,
 //! and that the definitions compute the worked runs.
 #![tactic(auto)]
-
-/// An open file of a line, as calls see it.
-#[derive(Clone, Copy, Debug, PartialEq, Eq)]
-pub struct OpenFile {
-    pub readable: bool,
-    pub writable: bool,
-    /// A revoke of the line came after the file was opened (revoke(2)).
-    pub dead: bool,
-}
