@@ -1,2 +1,13 @@
-pub mod Making
-mod Ways
+pub mod Asking
+pub mod Closing
+pub mod Files
+pub mod Groups
+pub mod Kept
+pub mod Moving
+pub mod Opening
+pub mod Reading
+pub mod NodeRows
+pub mod Removing
+pub mod Rows
+pub mod Ways
+pub mod Writing

@@ -1,16 +1,18 @@
 -- The rules of a path, part by part, are those of the directories that its walk passes and of its end.
-use Rattle.std.proofs.Common.{◌≡◌, ℕ, ◌+◌, ◌<◌, true, false, List, [], ◌∷◌, ◌++◌, length, map, drop, get_or, drop-cons, add-one, Option, Some, None, option_map, Ok, Err, refl, sym, ap, ◌∙◌}
-use Rattle.std.specs.Prelude.{is_some, nat_lt, ◌==◌}
+use Rattle.std.proofs.Common.{◌≡◌, ℕ, ◌+◌, ◌<◌, true, false, List, [], ◌∷◌, ◌++◌, length, map, drop, get_or, drop-cons, add-one, Option, Some, None, Ok, Err, refl, sym, ap, ◌∙◌}
+use Rattle.std.specs.Prelude.{is_some, nat_lt, ◌==◌, Result, IfOk, MatchResult}
 use Rattle.call_words.specs.declared.rules.Rule.{Rule}
-use Rattle.access_rule.specs.Access.{first, refusal, allowed_unless}
-use Rattle.access_rule.specs.declared.Attrs.{Attrs}
-use Rattle.vnode_tree.specs.Nodes.{Named, path_of, record_of, tree_of}
-use Rattle.access_rule.specs.Tree.{NodeRecord, Tree, Walked, is_dir_record, is_parent, parent_of, steps, begin_at, walk_from, walk}
+use Rattle.access_rule.specs.Access.{first}
+use Rattle.vnode_tree.specs.Nodes.{Named, path_of, tree_of}
+use Rattle.access_rule.specs.Tree.{Tree, Walked, at_path, nodes_from, is_dir_record, is_parent, parent_of, steps, begin_at, walk_from, walk}
 use Rattle.access_rule.specs.Paths.{search_rule, part_lines, path_rule}
 use Rattle.file_calls.specs.declared.caller.Caller.{Caller}
 use Rattle.vnode_tree.specs.declared.walk.Walk.{Walk}
 use Rattle.vnode_tree.specs.Walks.{seen, seen_end}
-use Rattle.file_calls.specs.Places.{end_rule, search_rules, unless_denied, reached}
+use Rattle.vnode_tree.proofs.Finite.{tree_is}
+use Rattle.file_calls.specs.declared.place.Place.{Place}
+use Rattle.file_calls.specs.Makes.{rule_of}
+use Rattle.file_calls.specs.Places.{end_rule, search_rules, rule_from, seen_place, IsLivePlace, LeadsTo}
 
 -- the first rule of a walk: of a directory that it passes, or of its end
 abbrev pub walked_rule : Tree → Caller → Walked → Option Rule
@@ -52,26 +54,6 @@ path_is_walked tree caller here text =
       ] refl
     ] refl
 
--- a rule that denies is the one that was named
-pub denied_by : (o : Option Rule) (ruled : Rule) → allowed_unless o ≡ Err ruled → o ≡ Some ruled
-denied_by None ruled e = absurd cc
-denied_by (Some other) ruled e = cc
-
--- where nothing is ruled there is no rule
-pub allowed_by : (o : Option Rule) → allowed_unless o ≡ Ok tt → o ≡ None
-allowed_by None e = refl
-allowed_by (Some other) e = absurd cc
-
--- the rule of a directory is that of what access to it depends on
-pub rule_here : (nodes : List (Option Named)) (caller : Caller) (n : ℕ) (attrs : Attrs) → option_map (λ (r : NodeRecord). r.attrs) (record_of nodes n) ≡ Some attrs → record_of nodes n ≡ tree_of nodes (path_of nodes n) → search_rule caller.cred caller.label (tree_of nodes (path_of nodes n)) ≡ refusal caller.cred caller.label attrs false false true
-rule_here nodes caller n attrs is there =
-    let o : Option NodeRecord = tree_of nodes (path_of nodes n) in
-    let is_there : option_map (λ (r : NodeRecord). r.attrs) o ≡ Some attrs = ap (option_map (λ (r : NodeRecord). r.attrs)) (sym there) ∙ is in
-    elim o as (λ o. option_map (λ (r : NodeRecord). r.attrs) o ≡ Some attrs → search_rule caller.cred caller.label o ≡ refusal caller.cred caller.label attrs false false true) [
-      | None ↦ λ e. absurd (let no : None ≡ Some attrs = e in cc)
-      | Some r ↦ λ e. let same : r.attrs ≡ attrs = let both : Some r.attrs ≡ Some attrs = e in cc in ap (λ (a : Attrs). refusal caller.cred caller.label a false false true) same
-    ] is_there
-
 -- the directories that are left, with the first of them
 dirs_cons : (dirs : List ℕ) (i n : ℕ) → i < length dirs → n ≡ get_or dirs i n → drop i dirs ≡ n ∷ drop (i + 1) dirs
 dirs_cons dirs i n within at = rw (drop-cons dirs i n within, ← at, add-one i) refl
@@ -87,17 +69,34 @@ open_here tree caller path dirs i n within at is = rw (dirs_cons dirs i n within
 seen_is : (nodes : List (Option Named)) (walk : Walk) (walked : Walked) → seen nodes walk ≡ walked → (map (path_of nodes) walk.passed.items ≡ walked.passed) × (seen_end nodes walk.end ≡ walked.end)
 seen_is nodes walk walked same = (ap (λ (w : Walked). w.passed) same, ap (λ (w : Walked). w.end) same)
 
+-- the walk that the table gives is that of the map
+pub walked_in_map : (nodes : List (Option Named)) (here : List (List ℕ)) (text : List ℕ) (walked : Walk) → seen nodes walked ≡ walk (tree_of nodes) here text → seen nodes walked ≡ walk (at_path (nodes_from nodes)) here text
+walked_in_map nodes here text walked same = same ∙ ap (λ (tree : Tree). walk tree here text) (sym (tree_is nodes))
+
 -- a directory on the way denies
-pub reached_not : (nodes : List (Option Named)) (caller : Caller) (here : List (List ℕ)) (text : List ℕ) (walked : Walk) (ruled : Rule) → seen nodes walked ≡ walk (tree_of nodes) here text → allowed_unless (search_rules (tree_of nodes) caller (map (path_of nodes) walked.passed.items)) ≡ Err ruled → Err ruled ≡ reached (tree_of nodes) caller here text
-reached_not nodes caller here text walked ruled same closed =
-    let is = seen_is nodes walked (walk (tree_of nodes) here text) same in
-    let by : search_rules (tree_of nodes) caller (walk (tree_of nodes) here text).passed ≡ Some ruled = ap (search_rules (tree_of nodes) caller) (sym is.0) ∙ denied_by _ _ closed in
-    rw (path_is_walked (tree_of nodes) caller here text, by) refl
+pub denied_on_the_way : (nodes : List (Option Named)) (caller : Caller) (text : List ℕ) (walked : Walk) (ruled : Rule) → seen nodes walked ≡ walk (tree_of nodes) (path_of nodes caller.directory) text → Some ruled ≡ search_rules (at_path (nodes_from nodes)) caller (map (path_of nodes) walked.passed.items) → rule_from nodes caller text ≡ Some ruled
+denied_on_the_way nodes caller text walked ruled same closed =
+    let tree : Tree = at_path (nodes_from nodes) in
+    let whole : Walked = walk tree (path_of nodes caller.directory) text in
+    let is = seen_is nodes walked whole (walked_in_map nodes (path_of nodes caller.directory) text walked same) in
+    let by : search_rules tree caller whole.passed ≡ Some ruled = ap (search_rules tree caller) (sym is.0) ∙ sym closed in
+    path_is_walked tree caller (path_of nodes caller.directory) text ∙ rw by refl
 
 -- no directory on the way denies, so it is left to the end
-pub reached_end : (nodes : List (Option Named)) (caller : Caller) (here : List (List ℕ)) (text : List ℕ) (walked : Walk) → seen nodes walked ≡ walk (tree_of nodes) here text → allowed_unless (search_rules (tree_of nodes) caller (map (path_of nodes) walked.passed.items)) ≡ Ok tt → unless_denied (end_rule (seen_end nodes walked.end)) (seen_end nodes walked.end) ≡ reached (tree_of nodes) caller here text
-reached_end nodes caller here text walked same free =
-    let is = seen_is nodes walked (walk (tree_of nodes) here text) same in
-    let none : search_rules (tree_of nodes) caller (walk (tree_of nodes) here text).passed ≡ None = ap (search_rules (tree_of nodes) caller) (sym is.0) ∙ allowed_by _ free in
+rule_at_end : (nodes : List (Option Named)) (caller : Caller) (text : List ℕ) (walked : Walk) → seen nodes walked ≡ walk (tree_of nodes) (path_of nodes caller.directory) text → None ≡ search_rules (at_path (nodes_from nodes)) caller (map (path_of nodes) walked.passed.items) → rule_from nodes caller text ≡ end_rule (seen_end nodes walked.end)
+rule_at_end nodes caller text walked same free =
+    let tree : Tree = at_path (nodes_from nodes) in
+    let whole : Walked = walk tree (path_of nodes caller.directory) text in
+    let is = seen_is nodes walked whole (walked_in_map nodes (path_of nodes caller.directory) text walked same) in
+    let none : search_rules tree caller whole.passed ≡ None = ap (search_rules tree caller) (sym is.0) ∙ sym free in
     let one : (o : Option Rule) → first (o ∷ []) ≡ o = λ o. elim o as (λ o. first (o ∷ []) ≡ o) [ None ↦ refl | Some r ↦ refl ] in
-    rw (is.1, path_is_walked (tree_of nodes) caller here text, none, one (end_rule (walk (tree_of nodes) here text).end)) refl
+    path_is_walked tree caller (path_of nodes caller.directory) text ∙ rw none (one (end_rule whole.end) ∙ ap end_rule (sym is.1))
+
+-- the answer at the end
+pub leads : (nodes : List (Option Named)) (caller : Caller) (text : List ℕ) (walked : Walk) (answer : Result Place Rule) → seen nodes walked ≡ walk (tree_of nodes) (path_of nodes caller.directory) text → None ≡ search_rules (at_path (nodes_from nodes)) caller (map (path_of nodes) walked.passed.items) → IfOk answer (λ place. seen_end nodes walked.end ≡ seen_place nodes place) → IfOk answer (IsLivePlace nodes) → rule_of answer ≡ end_rule (seen_end nodes walked.end) → MatchResult answer (LeadsTo nodes caller text) (λ denied. rule_from nodes caller text ≡ Some denied)
+leads nodes caller text walked (Err named) same free ends live ruled = rule_at_end nodes caller text walked same free ∙ sym ruled
+leads nodes caller text walked (Ok place) same free ends live ruled = record {
+  allowed = rule_at_end nodes caller text walked same free ∙ sym ruled;
+  ends = sym (seen_is nodes walked (walk (at_path (nodes_from nodes)) (path_of nodes caller.directory) text) (walked_in_map nodes (path_of nodes caller.directory) text walked same)).1 ∙ ends;
+  live = live;
+}

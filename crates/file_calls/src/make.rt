@@ -1,12 +1,14 @@
 //! New nodes.
 ghost use Rattle.std.specs.Prelude.{◌≡◌, ◌≤◌, ◌++◌, ◌∷◌, [], None, option_copied, IfOk, OnOk, OnErr};
 ghost use Rattle.access_rule.specs.NewNodes.{new_list, new_default};
-ghost use Rattle.vnode_tree.specs.Nodes.{IsLive, ChangesAt, named_at, path_of, with_node};
+ghost use Rattle.access_rule.specs.Tree.{nodes_from, placed};
+ghost use Rattle.vnode_tree.specs.Nodes.{IsLive, named_at, path_of, with_node};
 ghost use Rattle.vnode_tree.specs.Walks.{IsFree};
 ghost use Rattle.file_calls.specs.Makes.{made_node, denied_make, rule_of, named_as};
 
 use crate::Caller;
-use access_rule::{Attrs, may};
+use crate::access::check;
+use access_rule::Attrs;
 use acl_core::Acl;
 use call_words::{Kind, Node, Rule};
 use vnode_tree::{Name255, Tree, TreeFull};
@@ -55,15 +57,14 @@ pub fn make_node(
     ensures unused { IfOk result (λ node. named_at tree.old node ≡ None) }
     ensures made { IfOk result (λ node. tree.new ≡ with_node tree.old node (named_as (path_of tree.old dir ++ name.now ∷ []) (made_node tree.old caller.now dir kind mode))) }
     ensures live { IfOk result (IsLive tree.new) }
-    ensures changes { OnOk result (ChangesAt (path_of tree.old dir ++ name.now ∷ []) (made_node tree.old caller.now dir kind mode) tree.old tree.new) }
+    ensures map { OnOk result (nodes_from tree.new ≡ placed (nodes_from tree.old) (path_of tree.old dir ++ name.now ∷ []) (made_node tree.old caller.now dir kind mode)) }
 {
-    let parent = tree.attrs(dir);
-    may(&caller.cred, &caller.label, parent, false, true, false)?;
+    check(tree, caller, dir, false, true, false)?;
     let default = tree.default_list(dir);
     let attrs = Attrs {
         element: caller.label.active().copy(),
         owner: caller.cred.uid,
-        group: parent.group,
+        group: tree.attrs(dir).group,
         list: new_list(default, caller.umask, mode),
         is_dir: matches!(kind, Kind::Dir),
     };

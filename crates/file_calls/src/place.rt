@@ -1,12 +1,13 @@
 //! What stands at a path.
-ghost use Rattle.std.specs.Prelude.{◌≡◌, List, Option, All, IfOk, map};
-ghost use Rattle.access_rule.specs.Access.{allowed_unless};
-ghost use Rattle.vnode_tree.specs.Nodes.{Named, IsLive, path_of, tree_of};
+ghost use Rattle.std.specs.Prelude.{◌≡◌, List, Option, All, IfOk, MatchResult, map};
+ghost use Rattle.access_rule.specs.Tree.{at_path, nodes_from};
+ghost use Rattle.vnode_tree.specs.Nodes.{Named, IsLive, path_of};
 ghost use Rattle.vnode_tree.specs.Walks.{seen_end, IsLiveEnd};
-ghost use Rattle.file_calls.specs.Places.{reached, node_at, seen_answer, seen_node, IsLivePlace, end_rule, unless_denied, search_rules};
+ghost use Rattle.file_calls.specs.Makes.{rule_of};
+ghost use Rattle.file_calls.specs.Places.{LeadsTo, LeadsToNode, rule_from, node_rule_from, seen_place, IsLivePlace, end_rule, search_rules};
 
 use crate::Caller;
-use access_rule::may;
+use crate::access::check;
 use call_words::{Node, PathText, Rule};
 use vnode_tree::{End, Name255, Tree};
 
@@ -21,7 +22,8 @@ pub enum Place {
 
 /// The place at the end of a walk, or the rule by which the end denies.
 fn place_of(end: End) -> Result<Place, Rule>
-    ensures place { (nodes : List (Option Named)) → seen_answer nodes result ≡ unless_denied (end_rule (seen_end nodes end)) (seen_end nodes end) }
+    ensures place { (nodes : List (Option Named)) → IfOk result (λ place. seen_end nodes end ≡ seen_place nodes place) }
+    ensures denied { (nodes : List (Option Named)) → rule_of result ≡ end_rule (seen_end nodes end) }
     ensures live { (nodes : List (Option Named)) → IsLiveEnd nodes end → IfOk result (IsLivePlace nodes) }
 {
     match end {
@@ -37,11 +39,10 @@ fn place_of(end: End) -> Result<Place, Rule>
 /// Whether the caller may search each of some directories.
 fn search(tree: &Tree, caller: &Caller, dirs: &[Node]) -> Result<(), Rule>
     requires { All (IsLive tree.now) dirs.now }
-    ensures { result ≡ allowed_unless (search_rules (tree_of tree.now) caller.now (map (path_of tree.now) dirs.now)) }
+    ensures { rule_of result ≡ search_rules (at_path (nodes_from tree.now)) caller.now (map (path_of tree.now) dirs.now) }
 {
     for dir in dirs {
-        let attrs = tree.attrs(*dir);
-        may(&caller.cred, &caller.label, attrs, false, false, true)?;
+        check(tree, caller, *dir, false, false, true)?;
     }
     Ok(())
 }
@@ -53,8 +54,7 @@ fn search(tree: &Tree, caller: &Caller, dirs: &[Node]) -> Result<(), Rule>
 /// `LabelRead` and `Search` on that directory, and `NoEntry`, where the part is absent and is not the last.
 pub fn find(tree: &Tree, caller: &Caller, path: &PathText) -> Result<Place, Rule>
     requires { IsLive tree.now caller.now.directory }
-    ensures reached { seen_answer tree.now result ≡ reached (tree_of tree.now) caller.now (path_of tree.now caller.now.directory) path.now }
-    ensures live { IfOk result (IsLivePlace tree.now) }
+    ensures { MatchResult result (LeadsTo tree.now caller.now path.now) (λ denied. rule_from tree.now caller.now path.now ≡ Some denied) }
 {
     let walk = tree.walk(caller.directory, path);
     search(tree, caller, walk.passed.as_slice())?;
@@ -66,8 +66,7 @@ pub fn find(tree: &Tree, caller: &Caller, path: &PathText) -> Result<Place, Rule
 /// Denied by the rules of `find`, and then by `NoEntry`, where the last part is absent.
 pub fn find_node(tree: &Tree, caller: &Caller, path: &PathText) -> Result<Node, Rule>
     requires { IsLive tree.now caller.now.directory }
-    ensures node { seen_node tree.now result ≡ node_at (tree_of tree.now) caller.now (path_of tree.now caller.now.directory) path.now }
-    ensures live { IfOk result (IsLive tree.now) }
+    ensures { MatchResult result (LeadsToNode tree.now caller.now path.now) (λ denied. node_rule_from tree.now caller.now path.now ≡ Some denied) }
 {
     match find(tree, caller, path)? {
         Place::Found(node) => Ok(node),

@@ -3,6 +3,7 @@ ghost use Rattle.std.specs.Prelude.{◌<◌, ◌≤◌, List, Option, IfOk, IfSo
 ghost use Rattle.vnode_tree.specs.Nodes.{Named, IsLive};
 ghost use Rattle.vnode_tree.specs.Walks.{IsFree};
 ghost use Rattle.file_calls.specs.Places.{IsLivePlace};
+ghost use Rattle.file_calls.specs.Views.{IsHome};
 
 use crate::{Caller, Place, find, find_node, make_node};
 use access_rule::Attrs;
@@ -17,7 +18,7 @@ use user_db::read_boot;
 use vnode_tree::{Kind, Name255, Node, Tree};
 
 /// An element of a grade, without compartments.
-fn grade(grade: u16) -> Element {
+pub(crate) fn grade(grade: u16) -> Element {
     Element::Grade {
         grade,
         set: CompSet::empty(),
@@ -25,8 +26,8 @@ fn grade(grade: u16) -> Element {
 }
 
 /// A caller in the root directory, of a uid and an active element, who may take every element.
-fn caller(rt: &impl Abort, tree: &Tree, uid: u32, active: Element) -> Caller
-    ensures { IsLive tree.now result.directory }
+pub(crate) fn caller(rt: &impl Abort, tree: &Tree, uid: u32, active: Element) -> Caller
+    ensures { IsHome tree.now result }
 {
     Caller {
         cred: Cred {
@@ -40,7 +41,7 @@ fn caller(rt: &impl Abort, tree: &Tree, uid: u32, active: Element) -> Caller
     }
 }
 
-fn path_text(rt: &impl Abort, path: &[u8]) -> PathText {
+pub(crate) fn path_text(rt: &impl Abort, path: &[u8]) -> PathText {
     PathText::from_slice(path).expect(rt, "a path of at most 1,024 bytes")
 }
 
@@ -83,7 +84,7 @@ fn make(rt: &impl Abort, tree: &mut Tree, path: &[u8], mode: u16, element: Eleme
 }
 
 /// The standard tree, with `/tmp/closed` that only its owner may search, and `/tmp/secret` of grade 20 that is closed too.
-fn tree(rt: &impl Abort, alloc: Global) -> Result<Tree, Fail> {
+pub(crate) fn tree(rt: &impl Abort, alloc: Global) -> Result<Tree, Fail> {
     let boot = read_boot(alloc, b"")?;
     let mut tree = Tree::new(alloc, &boot)?;
     make(rt, &mut tree, b"/tmp/closed", 0o700, Element::Equal);
@@ -193,7 +194,7 @@ fn a_free_name_is_found_as_one(rt: HostRuntime) -> Result<(), Fail> {
 }
 
 /// Makes a node of a mode at a path, for a caller.
-fn ask(
+pub(crate) fn ask(
     rt: &impl Abort,
     tree: &mut Tree,
     by: &Caller,

@@ -1,0 +1,6 @@
+use Rattle.file_calls.specs.Views.{AreOpen}
+use Rattle.file_calls.proofs.opens_tests.ask_writes.Given as goal
+
+-- the files are open
+abbrev pub invariant-loop-active : goal.invariant-loop-active
+invariant-loop-active g l = AreOpen l.tree l.fds
