@@ -1,214 +1,149 @@
-//! One step of the kernel: a function for each call, under the call's name.
-ghost use Rattle.std.specs.Prelude.{◌≡◌, ℕ, ◌+◌, ◌≤◌};
+//! One step of the kernel: each call goes to the function of its name.
+ghost use Rattle.std.specs.Prelude.{◌≡◌, ℕ, ◌+◌, ◌≤◌, IfOk, OnOk, OnErr, None, true};
 ghost use Rattle.call_words.specs.declared.text.TheConstants.{PIECE_BYTES};
 ghost use Rattle.call_words.specs.declared.limits.TheConstants.{RAW_LINE};
+ghost use Rattle.call_words.specs.Calls.{HasFitMode};
 ghost use Rattle.call_words.specs.Events.{listed};
+ghost use Rattle.user_db.specs.Boot.{IsBoot};
 ghost use Rattle.machine_model.specs.State.{State, boot};
 ghost use Rattle.machine_model.specs.View.{View, view};
-ghost use Rattle.machine_model.specs.Rows.{Does};
-ghost use Rattle.machine_model.specs.FileCalls.{flags_clash, open_row, close_row, read_row, write_row};
-ghost use Rattle.machine_model.specs.LineCalls.{revoke_row, byte_row, take_row};
-ghost use Rattle.machine_model.specs.Step.{call_row, row, step, view_after, answer_to, gives_a_byte, wakes, MayBeAsked};
+ghost use Rattle.machine_model.specs.Rows.{Does, first};
+ghost use Rattle.machine_model.specs.Uses.{use_of};
+ghost use Rattle.machine_model.specs.FileCalls.{open_row};
+ghost use Rattle.machine_model.specs.Step.{call_row, row, step, view_after, answer_to, gives_a_byte, wakes, wants_memory, may_want_memory, MayBeAsked};
 ghost use Rattle.machine_model.specs.Stands.{Stands};
 
-use crate::descriptors::Descriptors;
+use crate::boot::first_caller;
 use crate::line::Line;
-use call_words::{
-    Access, Call, Decision, Event, OpenFlags, PIECE_BYTES, Piece, RAW_LINE, Reply, Rule, Wakes,
+use call_words::{Access, Call, Decision, Event, OpenFlags, PathText, RAW_LINE, Reply, Wakes};
+use file_calls::{
+    Caller, Descriptors, NoMemory, do_chdir, do_chmod, do_chown, do_getacl, do_getlabel, do_ident,
+    do_info, do_list, do_mkdir, do_open, do_rmdir, do_setacl, do_setcred, do_setlabel,
+    do_setproclabel, do_umask, do_unlink,
 };
-use machine_model::OpenFile;
+use std::alloc::Global;
 use std::marker::Model;
+use user_db::Boot;
+use vnode_tree::Tree;
 
 /// The kernel. In contracts it is what calls see of it.
 #[derive(Drop)]
 pub struct Kernel {
-    descriptors: Descriptors,
-    line: Line,
+    pub(crate) tree: Tree,
+    pub(crate) files: Descriptors,
+    pub(crate) caller: Caller,
+    pub(crate) line: Line,
+    /// Whether labels are looked at again at each read and write.
+    pub(crate) recheck: bool,
 }
 
 impl Model for Kernel {
     ghost use Rattle.machine_model.specs.View.{View};
+    ghost use Rattle.file_calls.specs.Views.{view_of, IsHome, AreOpen};
 
     ghost Value = { View };
 
-    ghost view = { λ k. record { descriptors = k.descriptors; line = k.line } };
-}
+    ghost view = { λ k. view_of k.tree k.files k.caller k.line k.recheck };
 
-fn denied(rule: Rule) -> Decision
-    ensures { result ≡ Decision.Answer (Reply.Denied rule) }
-{
-    Decision::Answer(Reply::Denied(rule))
-}
-
-fn number(n: u32) -> Decision
-    ensures { result ≡ Decision.Answer (Reply.Num n) }
-{
-    Decision::Answer(Reply::Num(n))
-}
-
-fn bytes(bytes: Piece) -> Decision
-    ensures { result ≡ Decision.Answer (Reply.Bytes bytes) }
-{
-    Decision::Answer(Reply::Bytes(bytes))
-}
-
-/// Whether the flags of an open do not go together.
-fn flags_clash(access: Access, flags: OpenFlags) -> bool
-    ensures { result ≡ flags_clash access flags }
-{
-    if (flags.truncate || flags.append) && !access.writes() {
-        return true;
-    }
-    flags.exclusive && !flags.create
+    ghost invariant = { λ k. IsHome k.tree k.caller × AreOpen k.tree k.files };
 }
 
 impl Kernel {
-    /// The kernel as it stands at boot.
-    pub fn boot() -> Self
-        ensures seen { result ≡ view boot }
-        ensures stands { Stands result 0 boot }
+    /// The kernel as it stands at boot: with the tree that the boot makes, and one process without descriptors.
+    ///
+    /// The boot is one that some boot text gives.
+    pub fn boot(alloc: Global, says: &Boot) -> Result<Self, NoMemory>
+        requires { IsBoot says.now }
+        ensures seen { IfOk result (λ kernel. kernel ≡ view (boot says.now)) }
+        ensures stands { IfOk result (λ kernel. Stands kernel 0 (boot says.now)) }
     {
-        Kernel {
-            descriptors: Descriptors::new(),
+        let tree = Tree::new(alloc, says)?;
+        let caller = first_caller(tree.root());
+        Ok(Kernel {
+            tree,
+            files: Descriptors::new(),
+            caller,
             line: Line::new(),
-        }
+            recheck: says.recheck,
+        })
     }
 
-    /// open(2) of line 7, whose node is there.
-    fn do_open(&mut self, access: Access, flags: OpenFlags) -> Decision
-        ensures { Does self.old self.new result (open_row self.old access flags) }
+    fn do_open(&mut self, path: &PathText, access: Access, flags: OpenFlags, mode: u16) -> Decision
+        requires { mode ≤ 0o777 }
+        ensures { Does self.old self.new result (open_row self.old path.now access flags mode) }
     {
-        if flags_clash(access, flags) {
-            return denied(Rule::Flags);
-        }
-        if flags.create && flags.exclusive {
-            return denied(Rule::Exists);
-        }
-        let file = OpenFile {
-            readable: access.reads(),
-            writable: access.writes(),
-            dead: false,
-        };
-        match self.descriptors.open(file) {
-            None => denied(Rule::FdRoom),
-            Some(fd) => number(u32::from(fd)),
-        }
+        do_open(
+            &mut self.tree,
+            &mut self.files,
+            &self.caller,
+            path,
+            access,
+            flags,
+            mode,
+        )
     }
 
-    /// close(2). The last close of a live file empties the queues.
-    fn do_close(&mut self, fd: u8) -> Decision
-        ensures { Does self.old self.new result (close_row self.old fd) }
-    {
-        let Some(file) = self.descriptors.get(fd) else {
-            return denied(Rule::BadFd);
-        };
-        self.descriptors.close(fd);
-        if !file.dead && !self.descriptors.any_live() {
-            self.line.empty();
-        }
-        number(0)
-    }
-
-    /// read(2). A dead file gives no bytes, whatever its line holds.
-    fn do_read(&mut self, fd: u8, max: u16) -> Decision
-        ensures { Does self.old self.new result (read_row self.old fd max) }
-    {
-        if usize::from(max) > PIECE_BYTES {
-            return denied(Rule::Size);
-        }
-        let Some(file) = self.descriptors.get(fd) else {
-            return denied(Rule::BadFd);
-        };
-        if !file.readable {
-            return denied(Rule::FdMode);
-        }
-        if file.dead || max == 0 {
-            return bytes(Piece::empty());
-        }
-        if self.line.has_no_input() {
-            return denied(Rule::NotReady);
-        }
-        bytes(self.line.take_input(max))
-    }
-
-    /// write(2). As many bytes are put as fit.
-    fn do_write(&mut self, fd: u8, written: &Piece) -> Decision
-        ensures { Does self.old self.new result (write_row self.old fd written.now) }
-    {
-        let Some(file) = self.descriptors.get(fd) else {
-            return denied(Rule::BadFd);
-        };
-        if !file.writable {
-            return denied(Rule::FdMode);
-        }
-        if file.dead {
-            return denied(Rule::Dead);
-        }
-        let written = written.as_slice();
-        if written.is_empty() {
-            return number(0);
-        }
-        if self.line.output_is_full() {
-            return denied(Rule::NotReady);
-        }
-        number(self.line.add_output(written) as u32)
-    }
-
-    /// revoke(2) of line 7.
-    fn do_revoke(&mut self) -> Decision
-        ensures { Does self.old self.new result revoke_row }
-    {
-        self.descriptors.kill_all();
-        self.line.empty();
-        number(0)
-    }
-
-    /// A byte arrives at line 7.
-    fn do_byte(&mut self, byte: u8) -> Decision
-        ensures { Does self.old self.new result (byte_row self.old byte) }
-    {
-        if self.descriptors.any_live() && !self.line.input_is_full() {
-            self.line.add_input(byte);
-        }
-        Decision::Noted
-    }
-
-    /// Output of line 7 is taken for sending.
-    fn do_take(&mut self, max: u16) -> Decision
-        requires { max ≤ PIECE_BYTES }
-        ensures { Does self.old self.new result (take_row self.old max) }
-    {
-        if !self.descriptors.any_live() {
-            return Decision::Taken(Piece::empty());
-        }
-        Decision::Taken(self.line.take_output(max))
-    }
-
-    fn do_call(&mut self, call: &Call) -> Decision
-        ensures { Does self.old self.new result (call_row self.old call.now) }
+    fn do_call(&mut self, call: &Call) -> Result<Decision, NoMemory>
+        requires { HasFitMode call.now }
+        ensures does { IfOk result (λ decision. Does self.old self.new decision (call_row self.old call.now)) }
+        ensures nothing { OnErr result (self.new ≡ self.old) }
+        ensures memory { OnErr result (wants_memory self.old (use_of call.now) ≡ true) }
+        ensures free { OnErr result (first (call_row self.old call.now).lines ≡ None) }
     {
         match call {
-            Call::Open { access, flags, .. } => self.do_open(*access, *flags),
-            Call::Close { fd } => self.do_close(*fd),
-            Call::Read { fd, max } => self.do_read(*fd, *max),
+            Call::Open {
+                path,
+                access,
+                flags,
+                mode,
+            } => Ok(self.do_open(path, *access, *flags, *mode)),
+            Call::Close { fd } => Ok(self.do_close(*fd)),
+            Call::Read { fd, max } => Ok(self.do_read(*fd, *max)),
             Call::Write { fd, bytes } => self.do_write(*fd, bytes),
-            Call::Revoke { .. } => self.do_revoke(),
+            Call::Chdir { path } => Ok(do_chdir(&self.tree, &mut self.caller, path)),
+            Call::Mkdir { path, mode } => Ok(do_mkdir(&mut self.tree, &self.caller, path, *mode)),
+            Call::Rmdir { path } => Ok(do_rmdir(&mut self.tree, &self.caller, path)),
+            Call::Unlink { path } => {
+                Ok(do_unlink(&mut self.tree, &self.files, &self.caller, path))
+            }
+            Call::List { path, from } => Ok(do_list(&self.tree, &self.caller, path, *from)),
+            Call::Info { path } => Ok(do_info(&self.tree, &self.caller, path)),
+            Call::Chmod { path, mode } => Ok(do_chmod(&mut self.tree, &self.caller, path, *mode)),
+            Call::Chown { path, uid, gid } => {
+                Ok(do_chown(&mut self.tree, &self.caller, path, *uid, *gid))
+            }
+            Call::SetAcl { path, which, list } => {
+                Ok(do_setacl(&mut self.tree, &self.caller, path, *which, list))
+            }
+            Call::GetAcl { path, which } => Ok(do_getacl(&self.tree, &self.caller, path, *which)),
+            Call::SetLabel { path, element } => {
+                Ok(do_setlabel(&mut self.tree, &self.caller, path, element))
+            }
+            Call::GetLabel { path } => Ok(do_getlabel(&self.tree, &self.caller, path)),
+            Call::SetCred { cred } => Ok(do_setcred(&mut self.caller, cred)),
+            Call::SetProcLabel { subject } => Ok(do_setproclabel(&mut self.caller, subject)),
+            Call::Umask { mode } => Ok(do_umask(&mut self.caller, *mode)),
+            Call::Ident => Ok(do_ident(&self.caller)),
+            Call::Revoke { path } => Ok(self.do_revoke(path)),
         }
     }
 
-    fn do_event(&mut self, event: &Event) -> Decision
+    fn do_event(&mut self, event: &Event) -> Result<Decision, NoMemory>
         requires { MayBeAsked event.now }
-        ensures { Does self.old self.new result (row self.old event.now) }
+        ensures does { IfOk result (λ decision. Does self.old self.new decision (row self.old event.now)) }
+        ensures nothing { OnErr result (self.new ≡ self.old) }
+        ensures memory { OnErr result (may_want_memory self.old event.now ≡ true) }
+        ensures free { OnErr result (first (row self.old event.now).lines ≡ None) }
     {
         match event {
             Event::Call { slot, call } => {
                 if *slot != 0 {
-                    return Decision::Answer(Reply::Gone);
+                    return Ok(Decision::Answer(Reply::Gone));
                 }
                 self.do_call(call)
             }
-            Event::Byte { byte, .. } => self.do_byte(*byte),
-            Event::Take { max, .. } => self.do_take(*max),
+            Event::Byte { byte, .. } => Ok(self.do_byte(*byte)),
+            Event::Take { max, .. } => Ok(self.do_take(*max)),
         }
     }
 
@@ -216,7 +151,7 @@ impl Kernel {
     fn has_output(&self) -> bool
         ensures { result ≡ gives_a_byte (answer_to self.now (Event.Take RAW_LINE PIECE_BYTES)) }
     {
-        self.descriptors.any_live() && !self.line.has_no_output()
+        self.files.any_live() && !self.line.has_no_output()
     }
 
     /// Writes down who can go on.
@@ -232,20 +167,24 @@ impl Kernel {
 
     /// One step: what the kernel makes of an event, what it answers, and who can go on then.
     ///
-    /// Whatever state of the machine the kernel stood for, the answer is the machine's there,
-    /// and then it stands for the machine's next state.
-    pub fn step(&mut self, event: &Event, list: &mut Wakes) -> Decision
+    /// Whatever state of the machine the kernel stood for, the answer is the machine's there, and then it stands for the
+    /// machine's next state. `NoMemory` comes only at a write to a regular file of which no line of the row
+    /// holds; then nothing has changed.
+    pub fn step(&mut self, event: &Event, list: &mut Wakes) -> Result<Decision, NoMemory>
         requires { MayBeAsked event.now }
         // By what calls see.
-        ensures seen { self.new ≡ view_after self.old event.now }
-        ensures answer { result ≡ answer_to self.old event.now }
-        ensures wakes { listed list.new ≡ wakes self.new }
+        ensures seen { OnOk result (self.new ≡ view_after self.old event.now) }
+        ensures answer { IfOk result (λ decision. decision ≡ answer_to self.old event.now) }
+        ensures wakes { OnOk result (listed list.new ≡ wakes self.new) }
         // By the state, with its names, tags and positions.
-        ensures stands { (n : ℕ) (s : State) → Stands self.old n s →
-            Stands self.new (n + 1) (step s (n + 1) event.now).0 × (result ≡ (step s (n + 1) event.now).1) }
+        ensures stands { IfOk result (λ decision. (n : ℕ) (s : State) → Stands self.old n s →
+            Stands self.new (n + 1) (step s (n + 1) event.now).0 × (decision ≡ (step s (n + 1) event.now).1)) }
+        ensures nothing { OnErr result (self.new ≡ self.old) }
+        ensures memory { OnErr result (may_want_memory self.old event.now ≡ true) }
+        ensures free { OnErr result (first (row self.old event.now).lines ≡ None) }
     {
-        let decision = self.do_event(event);
+        let decision = self.do_event(event)?;
         self.list_wakes(list);
-        decision
+        Ok(decision)
     }
 }

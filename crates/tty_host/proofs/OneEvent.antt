@@ -1,5 +1,5 @@
 -- One event of a run.
-use Rattle.std.proofs.Common.{◌≡◌, ℕ, zero, suc, ◌+◌, ◌-◌, ◌<◌, List, ◌∷◌, ◌++◌, Option, Some, Ok, Err, Result, length, drop, get_or, drop-cons, add-one, refl, sym, ap, ◌∙◌, arith}
+use Rattle.std.proofs.Common.{◌≡◌, ℕ, zero, suc, ◌+◌, ◌-◌, ◌<◌, true, List, ◌∷◌, ◌++◌, Option, Some, Ok, Err, Result, length, drop, get_or, drop-cons, add-one, refl, sym, ap, ◌∙◌, arith}
 use Rattle.std.specs.Prelude.{codes, slice_get}
 use Rattle.std.proofs.lemmas.Option.{slice_get_within, get_or_from_slice_get}
 use Rattle.edge_io.specs.Outside.{Appended}
@@ -7,16 +7,16 @@ use Rattle.call_words.specs.declared.events.Event.{Event}
 use Rattle.call_words.specs.declared.events.Decision.{Decision}
 use Rattle.call_words.specs.Events.{WakeList}
 use Rattle.machine_model.specs.View.{View}
-use Rattle.machine_model.specs.Step.{view_after, answer_to, wakes}
+use Rattle.machine_model.specs.Step.{view_after, answer_to, wakes, may_want_memory}
 use Rattle.machine_model.specs.Reading.{Asked}
 use Rattle.script_text.specs.Answers.{answer_line}
 use Rattle.machine_model.specs.Script.{Output, full_end}
 use Rattle.machine_model.specs.Seen.{out_seen, joined}
 use Rattle.machine_model.proofs.SeenRuns.{out_seen-full, out_seen-event}
 use Rattle.tty_host.specs.declared.run.Stop.{Stop}
-use Rattle.tty_host.specs.declared.run.Stop.TheVariants.{Full, Failed}
+use Rattle.tty_host.specs.declared.run.Stop.TheVariants.{Full, Failed, NoMemory}
 use Rattle.tty_host.specs.Told.{Began, Keeps, Goes}
-use Rattle.tty_host.proofs.Told.{keeps-more, goes-more, keeps-joined, keeps-last, began-joined, goes-at, goes-ok, goes-full, goes-failed}
+use Rattle.tty_host.proofs.Told.{keeps-more, goes-more, keeps-joined, keeps-last, began-joined, goes-at, goes-ok, goes-full, goes-failed, goes-memory}
 
 abbrev pub asked : List Event → Option ℕ → Asked
 asked es bad = record { events = es; bad = bad }
@@ -42,23 +42,31 @@ answered v v' e d w line after answer woken printed = record {
   printed = printed ∙ ap (λ d. answer_line e d w) answer ∙ ap (λ w. answer_line e (answer_to v e) w) (woken ∙ ap wakes after);
 }
 
-next : (v v' : View) (room : ℕ) (e : Event) (es : List Event) (bad : Option ℕ) (line : List ℕ) → 0 < room → Answered v v' e line → out_seen v room (asked (e ∷ es) bad) ≡ joined line (out_seen v' (room - 1) (asked es bad))
+next : (v v' : View) (room : ℕ) (e : Event) (es : List Event) (bad : Option ℕ) (line : List ℕ) → 0 < room → Answered v v' e line → out_seen v room (asked (e ∷ es) bad) ≡ joined v e line (out_seen v' (room - 1) (asked es bad))
 next v v' zero e es bad line some h = absurd (omega arith)
 next v v' (suc room) e es bad line some h =
     let left : suc room - 1 ≡ room = omega arith in
-    out_seen-event v room e es bad ∙ ap (λ l. joined l (out_seen (view_after v e) room (asked es bad))) (sym h.printed)
-    ∙ ap (λ u. joined line (out_seen u room (asked es bad))) (sym h.after) ∙ ap (λ n. joined line (out_seen v' n (asked es bad))) (sym left)
+    out_seen-event v room e es bad ∙ ap (λ l. joined v e l (out_seen (view_after v e) room (asked es bad))) (sym h.printed)
+    ∙ ap (λ u. joined v e line (out_seen u room (asked es bad))) (sym h.after) ∙ ap (λ n. joined v e line (out_seen v' n (asked es bad))) (sym left)
 
 -- where there is room, the answer was written, and the other events are still to come
 pub event-next : (v v' : View) (room : ℕ) (e : Event) (es : List Event) (bad : Option ℕ) (a b : Option (List ℕ)) (line : List ℕ) → 0 < room → Answered v v' e line → Appended a b line → Goes (Ok tt) a (out_seen v room (asked (e ∷ es) bad)) b (out_seen v' (room - 1) (asked es bad))
 event-next v v' room e es bad a b line some h told =
     let more = out_seen v' (room - 1) (asked es bad) in
-    goes-at (Ok tt) a b _ (joined line more) more (next v v' room e es bad line some h) (goes-ok a b (joined line more) more (keeps-joined a b line more told))
+    goes-at (Ok tt) a b _ (joined v e line more) more (next v v' room e es bad line some h) (goes-ok a b (joined v e line more) more (keeps-joined a b v e line more told))
 
 pub event-next-failed : (v v' : View) (room : ℕ) (e : Event) (es : List Event) (bad : Option ℕ) (a b : Option (List ℕ)) (y : Output) (line : List ℕ) → 0 < room → Answered v v' e line → Began a line b → Goes (Err Failed) a (out_seen v room (asked (e ∷ es) bad)) b y
 event-next-failed v v' room e es bad a b y line some h began =
     let more = out_seen v' (room - 1) (asked es bad) in
-    goes-at (Err Failed) a b _ (joined line more) y (next v v' room e es bad line some h) (goes-failed a b (joined line more) y (began-joined a b line more.bytes began))
+    goes-at (Err Failed) a b _ (joined v e line more) y (next v v' room e es bad line some h) (goes-failed a b (joined v e line more) y (began-joined a b line more.bytes began))
+
+-- where memory ran out at an event for which there is room, nothing of it was written
+pub event-memory : (v : View) (room : ℕ) (e : Event) (es : List Event) (bad : Option ℕ) (a : Option (List ℕ)) (y : Output) → 0 < room → may_want_memory v e ≡ true → Goes (Err NoMemory) a (out_seen v room (asked (e ∷ es) bad)) a y
+event-memory v zero e es bad a y some wants = absurd (omega arith)
+event-memory v (suc room) e es bad a y some wants =
+    let line = answer_line e (answer_to v e) (wakes (view_after v e)) in
+    let more = out_seen (view_after v e) room (asked es bad) in
+    goes-at (Err NoMemory) a a _ (joined v e line more) y (out_seen-event v room e es bad) (goes-memory a v e line more y wants)
 
 -- the events from i on are the one at i and those after it
 events-cons : (events es : List Event) (i : ℕ) (e : Event) → slice_get events i ≡ Some e → drop i events ++ es ≡ e ∷ (drop (i + 1) events ++ es)

@@ -1,5 +1,5 @@
 -- From a run of what calls see to the promise of the top call.
-use Rattle.std.proofs.Common.{◌≡◌, ℕ, ◌⊎◌, inl, inr, List, [], length, Some, Option, Ok, Err, Result, refl, sym, ap, ◌∙◌, arith, le-ltb}
+use Rattle.std.proofs.Common.{◌≡◌, ℕ, ◌⊎◌, inl, inr, List, [], length, ◌≤◌, Some, None, Option, Ok, Err, Result, refl, sym, ap, arith, le-ltb}
 use Rattle.std.specs.Prelude.{IsOk, IsErr}
 use Rattle.machine_model.specs.State.{boot}
 use Rattle.machine_model.specs.View.{view}
@@ -12,17 +12,17 @@ use Rattle.machine_model.proofs.Lawful.{obeys}
 use Rattle.tty_host.specs.declared.run.Run.{Run}
 use Rattle.tty_host.specs.declared.status.Status.{Status}
 use Rattle.tty_host.specs.declared.status.Status.TheVariants.{Done, Usage, Input, ReadFault, WriteFault, Memory, Full, NoWorker}
-use Rattle.tty_host.specs.Uses.{SourceUse, SinkUse, SourceFailed, SinkFailed, Unread, Unwritten}
+use Rattle.tty_host.specs.Uses.{SourceUse, SinkUse, SourceFailed, SinkFailed, Unread}
 use Rattle.tty_host.specs.Come.{to_come}
-use Rattle.tty_host.specs.Ends.{IsRunStatus, IsScriptStatus, Writes}
+use Rattle.tty_host.specs.Ends.{IsScriptStatus, Writes}
 use Rattle.tty_host.specs.Tops.{IsValid, RanScript}
 
 -- a new run is to write all of the machine's output
-pub start-come : (run : Run) (text : List ℕ) → run.kernel ≡ view boot → run.room ≡ 262144 → run.number ≡ 1 → run.line.items ≡ [] → to_come run text ≡ run_out (reads text)
-start-come run text kernel room number line = rw (kernel, room, number, line) (sym (run_out-seen (reads text)))
+pub start-come : (says : Boot) (run : Run) (text : List ℕ) → run.kernel ≡ view (boot says) → run.room ≡ 262144 → run.number ≡ 1 → run.line.items ≡ [] → to_come run text ≡ run_out says (reads text)
+start-come says run text kernel room number line = rw (kernel, room, number, line) (sym (run_out-seen says (reads text)))
 
 -- over a boot text without a bad line that is the output of the script
-pub good-boot : (boot_text text : List ℕ) (b : Boot) → boot_of boot_text ≡ Ok b → script_out boot_text text ≡ run_out (reads text)
+pub good-boot : (boot_text text : List ℕ) (b : Boot) → boot_of boot_text ≡ Ok b → script_out boot_text text ≡ run_out b (reads text)
 good-boot boot_text text b e = ap (λ says. after_boot says text) e
 
 pub bad-boot : (boot_text text : List ℕ) (n : ℕ) → boot_of boot_text ≡ Err n → script_out boot_text text ≡ boot_end n
@@ -32,30 +32,14 @@ bad-boot boot_text text n e = ap (λ says. after_boot says text) e
 pub no-bad-line : (says : Result Boot ℕ) (b : Boot) → says ≡ Ok b → IsErr says → ⊥
 no-bad-line says b e bad = cc
 
-after-good : (says : Result Boot ℕ) (text : List ℕ) → IsOk says → after_boot says text ≡ run_out (reads text)
-after-good (Ok b) text good = refl
-after-good (Err n) text good = cc
-
 -- valid texts have the status 0
-valid-status : (boot_text text : List ℕ) → IsValid boot_text text → (script_out boot_text text).status ≡ 0
+after-good : (says : Result Boot ℕ) (text : List ℕ) → IsOk says → (reads text).bad ≡ None → length (reads text).events ≤ 262144 → (after_boot says text).status ≡ 0
 unfolding text_end
-valid-status boot_text text h =
-    ap (λ out. out.status) (after-good (boot_of boot_text) text h.boot)
-    ∙ rw (le-ltb 262144 (length (reads text).events) h.fits, h.script) refl
+after-good (Ok b) text good none fits = rw (le-ltb 262144 (length (reads text).events) fits, none) refl
+after-good (Err n) text good none fits = cc
 
--- the run of a script ends as a script may, and not for want of memory
-pub run-ends : (status : Status) → IsRunStatus status → IsScriptStatus status
-run-ends Done s = s
-run-ends Usage s = s
-run-ends Input s = s
-run-ends ReadFault s = s
-run-ends WriteFault s = s
-run-ends Memory s = absurd s
-run-ends Full s = s
-run-ends NoWorker s = s
-
-pub run-has-memory : (status : Status) → IsRunStatus status → status ≡ Memory → ⊥
-run-has-memory status s e = rw e at s
+valid-status : (boot_text text : List ℕ) → IsValid boot_text text → (script_out boot_text text).status ≡ 0
+valid-status boot_text text h = after-good (boot_of boot_text) text h.boot h.script h.fits
 
 -- so where nothing failed and there was memory no other status is left
 complete : (status : Status) (out : Output) (a b : Option (List ℕ)) → IsScriptStatus status → Writes status out a b → out.status ≡ 0 → (status ≡ ReadFault → ⊥) → (status ≡ WriteFault → ⊥) → (status ≡ Done) ⊎ (status ≡ Memory)
@@ -72,9 +56,9 @@ complete NoWorker out a b s w zero read write = absurd s
 pub ran : (status : Status) (source src : SourceUse) (out : SinkUse)
     → ((boot_text text : List ℕ) → source.left ≡ Some boot_text → src.left ≡ Some text → Writes status (script_out boot_text text) out.told out.after)
     → ((text : List ℕ) → src.left ≡ Some text → status ≡ Done → src.rest ≡ Some [])
-    → (status ≡ ReadFault → SourceFailed source ⊎ SourceFailed src) → (status ≡ WriteFault → SinkFailed out) → (status ≡ Memory → Unwritten out) → IsScriptStatus status
+    → (status ≡ ReadFault → SourceFailed source ⊎ SourceFailed src) → (status ≡ WriteFault → SinkFailed out) → IsScriptStatus status
     → ((boot_text : List ℕ) → source.left ≡ Some boot_text → IsErr (boot_of boot_text) → Unread src) → RanScript status source src out
-ran status source src out output all_read read write memory others unread = record {
+ran status source src out output all_read read write others unread = record {
   output = output;
   all_read = all_read;
   complete = λ boot_text text bl sl valid no_boot no_src no_out.
@@ -82,8 +66,7 @@ ran status source src out output all_read read write memory others unread = reco
       (λ e. elim (read e) [ inl b ↦ no_boot b | inr s ↦ no_src s ]) (λ e. no_out (write e));
   read_fault = read;
   write_fault = write;
-  memory = memory;
   others = others;
   unread = unread;
-  lawful = λ text left. obeys (reads text).events;
+  lawful = λ boot_text text says bl sl good. obeys says (reads text).events;
 }

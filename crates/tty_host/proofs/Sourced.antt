@@ -1,9 +1,9 @@
 -- What a source gave, and how a run of it ends.
-use Rattle.std.proofs.Common.{◌≡◌, ℕ, List, [], ◌++◌, take, Some, None, Option, Ok, Err, refl, sym, ◌∙◌, append-nil, subst}
+use Rattle.std.proofs.Common.{◌≡◌, ℕ, List, [], ◌++◌, take, Some, None, Option, Ok, Err, inr, refl, sym, ◌∙◌, append-nil, subst}
 use Rattle.edge_io.specs.Outside.{Gave, Appended}
 use Rattle.machine_model.specs.Script.{Output}
 use Rattle.tty_host.specs.declared.run.Stop.{Stop}
-use Rattle.tty_host.specs.declared.run.Stop.TheVariants.{BadLine, Full, Failed}
+use Rattle.tty_host.specs.declared.run.Stop.TheVariants.{BadLine, Full, Failed, NoMemory}
 use Rattle.tty_host.specs.declared.status.Status.{Status}
 use Rattle.tty_host.specs.declared.status.Status.TheVariants as status
 use Rattle.tty_host.specs.Told.{Keeps, ended, Goes}
@@ -35,6 +35,7 @@ unfolding Goes
 writes-stop BadLine a b x y h = wrote-all status.Input a b x h
 writes-stop Full a b x y h = wrote-all status.Full a b x h
 writes-stop Failed a b x y h = h
+writes-stop NoMemory a b x y h = inr h
 
 pub writes-done : (a b : Option (List ℕ)) (x : Output) → Goes (Ok tt) a x b (ended 0) → WroteAll status.Done x a b
 unfolding Goes

@@ -1,11 +1,15 @@
 -- What was written, and what is still to come.
-use Rattle.std.proofs.Common.{◌≡◌, ℕ, ◌+◌, List, [], ◌++◌, take, drop, Some, None, Option, Ok, Err, Result, refl, sym, ap, ◌∙◌, append_assoc, append-nil, take-add, ◌≤◌, inl, inr, arith}
+use Rattle.std.proofs.Common.{◌≡◌, ℕ, ◌+◌, List, [], ◌∷◌, ◌++◌, map, take, drop, Some, None, Option, Ok, Err, Result, refl, sym, ap, subst, ◌∙◌, append_assoc, append-nil, take-add, ◌≤◌, inl, inr, arith}
+use Rattle.std.specs.Prelude.{if◌then◌else◌, true}
 use Rattle.edge_io.specs.Outside.{Rose, Appended}
-use Rattle.machine_model.specs.Script.{Output}
+use Rattle.call_words.specs.declared.events.Event.{Event}
+use Rattle.machine_model.specs.View.{View}
+use Rattle.machine_model.specs.Step.{may_want_memory}
+use Rattle.machine_model.specs.Script.{Output, stop_before}
 use Rattle.machine_model.specs.Seen.{joined}
 use Rattle.tty_host.specs.declared.run.Stop.{Stop}
-use Rattle.tty_host.specs.declared.run.Stop.TheVariants.{BadLine, Full, Failed}
-use Rattle.tty_host.specs.Told.{Began, Keeps, ended, Goes}
+use Rattle.tty_host.specs.declared.run.Stop.TheVariants.{BadLine, Full, Failed, NoMemory}
+use Rattle.tty_host.specs.Told.{Began, Among, Keeps, ended, Goes}
 
 pub appended-none : (a : Option (List ℕ)) → Appended a a []
 appended-none None = tt
@@ -22,8 +26,17 @@ appended-append (Some x) (Some y) (Some z) xs ys h k = rw (k, h) (append_assoc x
 pub appended-take : (a b c : Option (List ℕ)) (bytes : List ℕ) (at n : ℕ) → Appended a b (take at bytes) → Appended b c (take n (drop at bytes)) → Appended a c (take (at + n) bytes)
 appended-take a b c bytes at n h k = rw (take-add at n bytes) (appended-append a b c (take at bytes) (take n (drop at bytes)) h k)
 
+among-mapped : (line : List ℕ) (fronts : List (List ℕ)) (front : List ℕ) → Among fronts front → Among (map (λ f. line ++ f) fronts) (line ++ front)
+among-mapped line [] front h = absurd h
+among-mapped line (f ∷ fronts) front (inl is) = inl (ap (λ x. line ++ x) is)
+among-mapped line (f ∷ fronts) front (inr later) = inr (among-mapped line fronts front later)
+
+among-behind : (before fronts : List (List ℕ)) (front : List ℕ) → Among fronts front → Among (before ++ fronts) front
+among-behind [] fronts front h = h
+among-behind (f ∷ before) fronts front h = inr (among-behind before fronts front h)
+
 pub keeps-same : (a : Option (List ℕ)) (x : Output) → Keeps a x a x
-keeps-same a x = record { wrote = []; appended = appended-none a; bytes = refl; status = refl }
+keeps-same a x = record { wrote = []; appended = appended-none a; bytes = refl; status = refl; stops = λ front among. among }
 
 pub keeps-more : (a b c : Option (List ℕ)) (x y z : Output) → Keeps a x b y → Keeps b y c z → Keeps a x c z
 keeps-more a b c x y z h k = record {
@@ -31,6 +44,7 @@ keeps-more a b c x y z h k = record {
   appended = appended-append a b c h.wrote k.wrote h.appended k.appended;
   bytes = h.bytes ∙ ap (λ bs. h.wrote ++ bs) k.bytes ∙ sym (append_assoc h.wrote k.wrote z.bytes);
   status = h.status ∙ k.status;
+  stops = λ front among. subst (λ f. Among x.stops f) (sym (append_assoc h.wrote k.wrote front)) (h.stops (k.wrote ++ front) (k.stops front among));
 }
 
 -- a front of what is still to come is a front of what was to come
@@ -47,12 +61,18 @@ pub began-none : (a : Option (List ℕ)) (bytes : List ℕ) → Began a bytes a
 began-none a bytes = record { wrote = []; left = bytes; appended = appended-none a; whole = refl }
 
 -- a line that was written is no longer to come
-pub keeps-joined : (a b : Option (List ℕ)) (line : List ℕ) (more : Output) → Appended a b line → Keeps a (joined line more) b more
-keeps-joined a b line more h = record { wrote = line; appended = h; bytes = refl; status = refl }
+pub keeps-joined : (a b : Option (List ℕ)) (v : View) (e : Event) (line : List ℕ) (more : Output) → Appended a b line → Keeps a (joined v e line more) b more
+keeps-joined a b v e line more h = record {
+  wrote = line;
+  appended = h;
+  bytes = refl;
+  status = refl;
+  stops = λ front among. among-behind (stop_before v e) (map (λ f. line ++ f) more.stops) (line ++ front) (among-mapped line more.stops front among);
+}
 
 -- the last line was written
 pub keeps-last : (a b : Option (List ℕ)) (out : Output) → Appended a b out.bytes → Keeps a out b (ended out.status)
-keeps-last a b out h = record { wrote = out.bytes; appended = h; bytes = sym (append-nil out.bytes); status = refl }
+keeps-last a b out h = record { wrote = out.bytes; appended = h; bytes = sym (append-nil out.bytes); status = refl; stops = λ front among. absurd among }
 
 -- what holds before a call and what the call keeps
 pub goes-more : (r : Result (Unit {0}) Stop) (a b c : Option (List ℕ)) (x y z : Output) → Keeps a x b y → Goes r b y c z → Goes r a x c z
@@ -61,6 +81,11 @@ goes-more (Ok v) a b c x y z h k = keeps-more a b c x y z h k
 goes-more (Err BadLine) a b c x y z h k = keeps-more a b c x y (ended 2) h k
 goes-more (Err Full) a b c x y z h k = keeps-more a b c x y (ended 6) h k
 goes-more (Err Failed) a b c x y z h k = began-more a b c x y h k
+goes-more (Err NoMemory) a b c x y z h k = record {
+  front = h.wrote ++ k.front;
+  among = h.stops k.front k.among;
+  appended = appended-append a b c h.wrote k.front h.appended k.appended;
+}
 
 -- where a run stops, what would have come after does not matter
 pub goes-stop : (s : Stop) (a b : Option (List ℕ)) (x y z : Output) → Goes (Err s) a x b y → Goes (Err s) a x b z
@@ -68,6 +93,7 @@ unfolding Goes
 goes-stop BadLine a b x y z h = h
 goes-stop Full a b x y z h = h
 goes-stop Failed a b x y z h = h
+goes-stop NoMemory a b x y z h = h
 
 pub goes-ok : (a b : Option (List ℕ)) (x y : Output) → Keeps a x b y → Goes (Ok tt) a x b y
 unfolding Goes
@@ -88,6 +114,15 @@ goes-bad a b x y h = h
 pub goes-failed : (a b : Option (List ℕ)) (x y : Output) → Began a x.bytes b → Goes (Err Failed) a x b y
 unfolding Goes
 goes-failed a b x y h = h
+
+-- where memory ran out before the event that comes next
+pub goes-memory : (a : Option (List ℕ)) (v : View) (e : Event) (line : List ℕ) (more y : Output) → may_want_memory v e ≡ true → Goes (Err NoMemory) a (joined v e line more) a y
+unfolding Goes
+goes-memory a v e line more y wants = record {
+  front = [];
+  among = subst (λ b. Among ((if b then [] ∷ [] else []) ++ map (λ f. line ++ f) more.stops) []) (sym wants) (inl refl);
+  appended = appended-none a;
+}
 
 -- the same of what was to come, written another way
 pub goes-at : (r : Result (Unit {0}) Stop) (a b : Option (List ℕ)) (x x' y : Output) → x ≡ x' → Goes r a x' b y → Goes r a x b y

@@ -1,8 +1,8 @@
 -- How a script ends.
-use Rattle.std.specs.Prelude.{◌≡◌, ℕ, List, Option}
+use Rattle.std.specs.Prelude.{◌≡◌, ◌⊎◌, ℕ, List, Option}
 use Rattle.edge_io.specs.Outside.{Appended}
 use Rattle.machine_model.specs.Script.{Output}
-use Rattle.tty_host.specs.Told.{Began}
+use Rattle.tty_host.specs.Told.{Began, StoppedAt}
 use Rattle.tty_host.specs.declared.run.Stop.{Stop}
 use Rattle.tty_host.specs.declared.run.Stop.TheVariants as stop
 use Rattle.tty_host.specs.declared.status.Status.{Status}
@@ -18,18 +18,7 @@ code_of Memory = 5
 code_of Full = 6
 code_of NoWorker = 8
 
--- The statuses with which the run of a script ends. It needs no memory and no worker yet.
-abbrev pub IsRunStatus : Status → Type 0
-IsRunStatus Done = Unit {0}
-IsRunStatus Usage = ⊥
-IsRunStatus Input = Unit {0}
-IsRunStatus ReadFault = Unit {0}
-IsRunStatus WriteFault = Unit {0}
-IsRunStatus Memory = ⊥
-IsRunStatus Full = Unit {0}
-IsRunStatus NoWorker = ⊥
-
--- The same of a script with its boot text, which needs memory.
+-- The statuses with which a script ends. It needs no worker.
 abbrev pub IsScriptStatus : Status → Type 0
 IsScriptStatus Done = Unit {0}
 IsScriptStatus Usage = ⊥
@@ -45,20 +34,21 @@ abbrev pub stop_status : Stop → Status
 stop_status stop.BadLine = Input
 stop_status stop.Full = Full
 stop_status stop.Failed = WriteFault
+stop_status stop.NoMemory = Memory
 
 -- all of the output was written, and the status is the output's
 pub record WroteAll (status : Status) (out : Output) (told after : Option (List ℕ)) : Type 0 where
   pub appended : Appended told after out.bytes
   pub code : out.status ≡ code_of status
 
--- What a script wrote, by the status with which it ended: all of the machine's output, after a
--- fault the front of it, and nothing where memory ran out. No script ends in another way.
+-- What a script wrote, by the status with which it ended: all of the machine's output; after a fault the front of it; and where
+-- memory ran out nothing, or all answers before a write. No script ends in another way.
 abbrev pub Writes : Status → Output → Option (List ℕ) → Option (List ℕ) → Type 0
 Writes Done out told after = WroteAll Done out told after
 Writes Usage out told after = ⊥
 Writes Input out told after = WroteAll Input out told after
 Writes ReadFault out told after = Began told out.bytes after
 Writes WriteFault out told after = Began told out.bytes after
-Writes Memory out told after = after ≡ told
+Writes Memory out told after = (after ≡ told) ⊎ StoppedAt told out.stops after
 Writes Full out told after = WroteAll Full out told after
 Writes NoWorker out told after = ⊥

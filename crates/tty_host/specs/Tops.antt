@@ -1,13 +1,14 @@
 -- What the top calls promise.
-use Rattle.std.specs.Prelude.{◌≡◌, ℕ, ◌≤◌, ◌⊎◌, List, [], ◌∷◌, length, Some, None, IsOk, IsErr, if◌then◌else◌, codes}
+use Rattle.std.specs.Prelude.{◌≡◌, ℕ, ◌≤◌, ◌⊎◌, List, [], ◌∷◌, length, Some, None, Ok, IsOk, IsErr, if◌then◌else◌, codes}
 use Rattle.std.specs.Str.{bytes_eq}
 use Rattle.call_words.specs.declared.limits.TheConstants.{TRAIL_EVENTS}
 use Rattle.edge_io.specs.Outside.{Appended}
 use Rattle.machine_model.specs.Reading.{reads}
+use Rattle.user_db.specs.declared.boot.Boot.{Boot}
 use Rattle.user_db.specs.Boot.{boot_of}
 use Rattle.machine_model.specs.Script.{script_out}
 use Rattle.machine_model.specs.Laws.{ObeysLaws}
-use Rattle.tty_host.specs.Uses.{SourceUse, SinkUse, SourceFailed, SinkFailed, Unread, Unwritten}
+use Rattle.tty_host.specs.Uses.{SourceUse, SinkUse, SourceFailed, SinkFailed, Unread}
 use Rattle.tty_host.specs.Told.{Began}
 use Rattle.tty_host.specs.Ends.{IsScriptStatus, Writes}
 use Rattle.tty_host.specs.declared.choice.Choice.{Choice}
@@ -23,7 +24,8 @@ pub record IsValid (boot_text text : List ℕ) : Type 0 where
 
 -- The call ran the script of a source over the boot text of another, and wrote its answers.
 pub record RanScript (status : Status) (boot src : SourceUse) (out : SinkUse) : Type 0 where
-  -- what was written is the machine's output, with its status, or after a fault the front of it
+  -- what was written is the machine's output, with its status, or after a fault the front of it, or where memory ran out nothing
+  -- or all answers before a write
   pub output : (boot_text text : List ℕ) → boot.left ≡ Some boot_text → src.left ≡ Some text → Writes status (script_out boot_text text) out.told out.after
   -- status 0 says that the text was read to its end
   pub all_read : (text : List ℕ) → src.left ≡ Some text → status ≡ Done → src.rest ≡ Some []
@@ -32,14 +34,12 @@ pub record RanScript (status : Status) (boot src : SourceUse) (out : SinkUse) : 
   -- statuses 3 and 4 come only where a count of faults rose in the call
   pub read_fault : status ≡ ReadFault → SourceFailed boot ⊎ SourceFailed src
   pub write_fault : status ≡ WriteFault → SinkFailed out
-  -- status 5 comes only with nothing written
-  pub memory : status ≡ Memory → Unwritten out
   pub others : IsScriptStatus status
   -- the boot text is read before the script, which is not read where that has a bad line
   pub unread : (boot_text : List ℕ) → boot.left ≡ Some boot_text → IsErr (boot_of boot_text) → Unread src
-  -- in the run of the script each refusal names the first rule that denies, and no byte of a line
-  -- moves through a file that was opened before the line's last revoke
-  pub lawful : (text : List ℕ) → src.left ≡ Some text → ObeysLaws (reads text).events
+  -- In the run of the script each refusal names the first rule that denies; no byte of a line moves through a file that was opened
+  -- before the line's last revoke; and labels dominate at each open and, where the boot text says so, at each read and write.
+  pub lawful : (boot_text text : List ℕ) (says : Boot) → boot.left ≡ Some boot_text → src.left ≡ Some text → boot_of boot_text ≡ Ok says → ObeysLaws says (reads text).events
 
 abbrev pub usage_line : List ℕ
 usage_line = codes "usage: revtty script [BOOT] | session [BOOT] | load N START | serve DIR BOOT\n"

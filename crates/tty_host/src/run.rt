@@ -3,12 +3,13 @@ ghost use Rattle.std.specs.Prelude.{◌≡◌, ℕ, ◌+◌, ◌-◌, ◌*◌, �
 ghost use Rattle.arrayvec.specs.ArrayVec.{array_vec_len};
 ghost use Rattle.edge_io.specs.Outside.{Rose, Appended};
 ghost use Rattle.call_words.specs.declared.events.Event.{Event};
+ghost use Rattle.user_db.specs.Boot.{IsBoot};
 ghost use Rattle.machine_model.specs.State.{boot};
 ghost use Rattle.machine_model.specs.View.{view};
 ghost use Rattle.machine_model.specs.Step.{MayBeAsked};
 ghost use Rattle.machine_model.specs.Script.{Output, text_end};
 ghost use Rattle.tty_host.specs.Told.{Began};
-ghost use Rattle.tty_host.specs.Ends.{IsRunStatus, stop_status};
+ghost use Rattle.tty_host.specs.Ends.{IsScriptStatus, stop_status};
 ghost use Rattle.tty_host.specs.OneLine.{is_one_line};
 
 use crate::built::read_built_line;
@@ -17,8 +18,10 @@ use crate::status::Status;
 use arrayvec::ArrayVec;
 use call_words::{Event, PIECE_BYTES, SCRIPT_LINE_BYTES, TRAIL_EVENTS, Wakes};
 use edge_io::{Failed, Sink, Source};
-use kern_core::Kernel;
+use kern_core::{Kernel, NoMemory};
 use script_text::{AnswerLine, Events, print_answer};
+use std::alloc::Global;
+use user_db::Boot;
 
 /// Why a run ends before its text does.
 #[derive(Clone, Copy, Debug, PartialEq, Eq)]
@@ -26,6 +29,7 @@ pub enum Stop {
     BadLine,
     Full,
     Failed,
+    NoMemory,
 }
 
 impl Stop {
@@ -37,6 +41,7 @@ impl Stop {
             Stop::BadLine => Status::Input,
             Stop::Full => Status::Full,
             Stop::Failed => Status::WriteFault,
+            Stop::NoMemory => Status::Memory,
         }
     }
 }
@@ -73,19 +78,21 @@ impl Run {
     ghost use Rattle.tty_host.specs.Told.{Goes, ended};
     ghost use Rattle.tty_host.specs.Ends.{Writes};
 
-    /// A run from boot, with no byte of its text read.
-    pub fn new() -> Self
-        ensures kernel { result.kernel ≡ view boot }
-        ensures room { result.room ≡ 262144 }
-        ensures number { result.number ≡ 1 }
-        ensures line { result.line.items ≡ [] }
+    /// A run from a boot, with no byte of its text read. The boot is one that some boot text gives.
+    pub fn new(alloc: Global, says: &Boot) -> Result<Self, NoMemory>
+        requires { IsBoot says.now }
+        ensures kernel { IfOk result (λ run. run.kernel ≡ view (boot says.now)) }
+        ensures room { IfOk result (λ run. run.room ≡ 262144) }
+        ensures number { IfOk result (λ run. run.number ≡ 1) }
+        ensures line { IfOk result (λ run. run.line.items ≡ []) }
     {
-        Run {
-            kernel: Kernel::boot(),
+        let kernel = Kernel::boot(alloc, says)?;
+        Ok(Run {
+            kernel,
             room: TRAIL_EVENTS,
             number: 1,
             line: ArrayVec::new(),
-        }
+        })
     }
 
     /// Runs one event and writes its answer.
@@ -107,7 +114,10 @@ impl Run {
             };
         }
         let mut wakes = Wakes::none();
-        let decision = self.kernel.step(event, &mut wakes);
+        let decision = match self.kernel.step(event, &mut wakes) {
+            Ok(decision) => decision,
+            Err(NoMemory) => return Err(Stop::NoMemory),
+        };
         self.room -= 1;
         let mut line = AnswerLine::new();
         print_answer(event, &decision, &wakes, &mut line);
@@ -220,7 +230,7 @@ impl Run {
         ensures all { (text : List ℕ) → S.left src.old ≡ Some text → result ≡ Status.Done → S.left src.new ≡ Some [] }
         ensures read_fault { result ≡ Status.ReadFault → Rose (S.faults src.old) (S.faults src.new) }
         ensures write_fault { result ≡ Status.WriteFault → Rose (K.faults out.old) (K.faults out.new) }
-        ensures others { IsRunStatus result }
+        ensures others { IsScriptStatus result }
     {
         let mut buffer = [0; PIECE_BYTES];
         loop {

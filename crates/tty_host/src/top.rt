@@ -1,6 +1,11 @@
 //! The top calls.
-ghost use Rattle.std.specs.Prelude.{◌≡◌, ℕ, List, map, Option};
+ghost use Rattle.std.specs.Prelude.{◌≡◌, ℕ, List, [], map, Option, Some};
 ghost use Rattle.std.specs.String.{string_bytes};
+ghost use Rattle.edge_io.specs.Outside.{Rose};
+ghost use Rattle.user_db.specs.Boot.{IsBoot};
+ghost use Rattle.machine_model.specs.Reading.{reads};
+ghost use Rattle.machine_model.specs.Script.{run_out};
+ghost use Rattle.tty_host.specs.Ends.{IsScriptStatus, Writes};
 ghost use Rattle.tty_host.specs.Uses.{source_use, sink_use};
 ghost use Rattle.tty_host.specs.Tops.{RanScript, WroteUsage, choice_of};
 
@@ -10,11 +15,29 @@ use crate::print::bad_boot_line;
 use crate::run::{Run, write_all};
 use crate::status::Status;
 use edge_io::{Failed, Sink, Source};
+use kern_core::NoMemory;
 use std::alloc::Global;
+use user_db::Boot;
 
 /// What `revtty` prints where its words have none of the forms.
 const USAGE: &[u8] =
     b"usage: revtty script [BOOT] | session [BOOT] | load N START | serve DIR BOOT\n";
+
+/// Runs the script of a source from a boot, which is one that some boot text gives.
+fn run_script<S: Source, K: Sink>(alloc: Global, says: Boot, src: &mut S, out: &mut K) -> Status
+    requires { IsBoot says }
+    ensures writes { (text : List ℕ) → S.left src.old ≡ Some text →
+        Writes result (run_out says (reads text)) (K.written out.old) (K.written out.new) }
+    ensures all { (text : List ℕ) → S.left src.old ≡ Some text → result ≡ Status.Done → S.left src.new ≡ Some [] }
+    ensures read_fault { result ≡ Status.ReadFault → Rose (S.faults src.old) (S.faults src.new) }
+    ensures write_fault { result ≡ Status.WriteFault → Rose (K.faults out.old) (K.faults out.new) }
+    ensures others { IsScriptStatus result }
+{
+    match Run::new(alloc, &says) {
+        Ok(run) => run.run_source(src, out),
+        Err(NoMemory) => Status::Memory,
+    }
+}
 
 /// Runs the script of `src`, one answer line for each event, over the boot text of `boot`,
 /// which is read first.
@@ -33,7 +56,7 @@ pub fn script_top<B: Source, S: Source, K: Sink>(
         (sink_use K.written K.faults out.old out.new) }
 {
     match take_boot(alloc, boot) {
-        Ok(_boot) => Run::new().run_source(src, out),
+        Ok(says) => run_script(alloc, says, src, out),
         Err(NoBoot::Line(number)) => match write_all(out, bad_boot_line(number).as_slice()) {
             Ok(()) => Status::Input,
             Err(Failed) => Status::WriteFault,

@@ -30,8 +30,8 @@ returns-in-Ok-finish-clause-writes g c = λ text left.
     let took = gave-took _ _ _ _ _ kept.1.0 c.in-Ok.ensures.gave in
     writes-done _ _ _ (goes-more _ _ _ _ _ _ _ kept.1.1 (goes-at _ _ _ _ _ _ (ap (λ t. to_come c.loop-count.self t) (took.none c.if-count-eq0.true)) c.in-Ok-finish.ensures.goes))
 
-pub returns-in-Err-finish-clause-writes : goal.returns-in-Err-finish-clause-writes
-returns-in-Err-finish-clause-writes g c = λ text left.
+pub returns-clause-writes : goal.returns-clause-writes
+returns-clause-writes g c = λ text left.
     let kept = c.loop-count.invariant.keeps text left in
     let took = gave-took _ _ _ _ _ kept.1.0 c.in-Ok.ensures.gave in
     rw c.status-in-Err-finish.ensures (writes-stop _ _ _ _ _ (goes-more _ _ _ _ _ _ _ kept.1.1 (goes-at _ _ _ _ _ _ (ap (λ t. to_come c.loop-count.self t) (took.none c.if-count-eq0.true)) c.in-Err-finish.ensures.goes)))
