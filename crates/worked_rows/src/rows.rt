@@ -48,6 +48,42 @@ const OPEN_WORDS: (&str, &str) = (
     "0 err EINVAL flags\n0 err EINVAL flags\n0 err EEXIST exists\n0 ok 0\n",
 );
 
+/// Directories and files, their modes and who may change them.
+const TREE_CALLS: (&str, &str) = (
+    "0 mkdir /tmp/d 700\n0 open /tmp/d/f rw c 640\n0 write 0 6162\n0 info /tmp/d/f\n0 rmdir /tmp/d\n0 unlink /tmp/d/f\n0 close 0\n0 unlink /tmp/d/f\n0 setcred 1001 100 -\n0 chmod /tmp/d 777\n0 list /tmp/d 0\n0 list /bin/../tmp 0\n",
+    "0 ok 0\n0 ok 0\n0 ok 2\n0 text file:0:0:640:2\n0 err ENOTEMPTY not-empty\n0 err EBUSY in-use\n0 ok 0\n0 ok 0\n0 ok 0\n0 err EPERM owner\n0 err EACCES list\n0 text d\n",
+);
+
+/// Labels at opens, by one process.
+const LABELS_AT_OPEN: (&str, &str) = (
+    "0 open /tmp/low rw c 666\n0 setlabel /tmp/low mls/5:2\n0 setproclabel mls/10:2(5:2-20:2+3)\n0 open /tmp/low w\n0 open /tmp/low r\n0 setproclabel mls/5:2(5:2-20:2+3)\n0 open /tmp/low w\n0 setproclabel mls/equal\n",
+    "0 ok 0\n0 ok 0\n0 ok 0\n0 err EACCES label-write\n0 ok 1\n0 ok 0\n0 ok 2\n0 err EPERM proclabel\n",
+);
+
+/// Lines and the devices: the tree has them, and only line 7 can be opened.
+const DEVICES: (&str, &str) = (
+    "0 open /dev/tty6 rw\n0 open /dev/tty0 rw n\n0 open /dev/tty rw\n0 open /dev/../dev/./tty7 rw\n0 unlink /dev/tty7\n0 info /dev/tty7\n0 open /dev r\n",
+    "0 err EAGAIN not-ready\n0 err EAGAIN not-ready\n0 err ENXIO no-tty\n0 ok 0\n0 err EBUSY device\n0 text line:0:0:600:0\n0 err EISDIR is-dir\n",
+);
+
+/// Offsets, appends, gaps of zeros and truncation (open(2), read(2), write(2)).
+const OFFSETS: (&str, &str) = (
+    "0 open /tmp/f rw c\n0 open /tmp/f rw a\n0 write 0 6162\n0 write 1 63\n0 read 1 9\n0 read 0 9\n0 open /tmp/f w t\n0 write 0 64\n0 open /tmp/f r\n0 read 3 9\n0 write 3 65\n",
+    "0 ok 0\n0 ok 1\n0 ok 2\n0 ok 1\n0 bytes -\n0 bytes 63\n0 ok 2\n0 ok 1\n0 ok 3\n0 bytes 00000064\n0 err EBADF fd-mode\n",
+);
+
+/// Lists, labels and callers as texts; the umask, and where a directory has a default list.
+const TEXTS: (&str, &str) = (
+    "0 ident\n0 umask 77\n0 umask 22\n0 mkdir /tmp/d 777\n0 setacl /tmp/d default user::rwx,group::r-x,other::---\n0 umask 777\n0 open /tmp/d/f w c 666\n0 getacl /tmp/d/f access\n0 getacl /tmp/d default\n0 setacl /tmp/d default -\n0 getacl /tmp/d default\n0 getlabel /etc\n0 getacl /tmp/d/f default\n0 setacl /tmp/d access -\n",
+    "0 text 1:0:0:-:mls/equal(low-high)\n0 ok 18\n0 ok 63\n0 ok 0\n0 ok 0\n0 ok 18\n0 ok 0\n0 text user::rw-,group::r--,other::---\n0 text user::rwx,group::r-x,other::---\n0 ok 0\n0 text -\n0 text mls/low\n0 err ENOTDIR not-dir\n0 err EINVAL acl-bad\n",
+);
+
+/// The first rule of two is named, also below a directory that may not be searched, and only the owner revokes.
+const FIRST_RULES: (&str, &str) = (
+    "0 mkdir /tmp/d 700\n0 open /dev/tty7 rw\n0 setcred 1001 100 20+30\n0 revoke /dev/tty7\n0 info /tmp/d/x\n0 info /tmp/x\n0 unlink /tmp/d/x/y\n0 setcred 0 0 -\n0 ident\n0 chdir /tmp/d\n0 open /tmp/f r x\n",
+    "0 ok 0\n0 ok 0\n0 ok 0\n0 err EPERM owner\n0 err EACCES search\n0 err ENOENT no-entry\n0 err EACCES search\n0 err EPERM super\n0 text 1:1001:100:20+30:mls/equal(low-high)\n0 err EACCES search\n0 err EINVAL flags\n",
+);
+
 #[test]
 fn valid_scripts(rt: HostRuntime) -> Result<(), Fail> {
     let rows = [
@@ -57,6 +93,12 @@ fn valid_scripts(rt: HostRuntime) -> Result<(), Fail> {
         LAST_CLOSE,
         FORMS,
         OPEN_WORDS,
+        TREE_CALLS,
+        LABELS_AT_OPEN,
+        DEVICES,
+        OFFSETS,
+        TEXTS,
+        FIRST_RULES,
     ];
     for (text, answers) in rows {
         let (written, status) = run(rt.alloc(), text.as_bytes())?;
@@ -79,7 +121,7 @@ fn refusals_up_to_a_bad_line(rt: HostRuntime) -> Result<(), Fail> {
 }
 
 /// Each way for a line to be bad.
-const BAD_LINES: [&str; 34] = [
+const BAD_LINES: [&str; 35] = [
     "",
     " ",
     " 0 close 0",
@@ -107,7 +149,8 @@ const BAD_LINES: [&str; 34] = [
     "0 open /dev/tty7",
     "0 open /dev/tty7 wr",
     "0 open /dev/tty7 rw 600",
-    "0 open /dev/tty6 rw",
+    "0 mkdir /tmp/d",
+    "0 umask 1000",
     "0 revoke /dev/tty0",
     "in tty7 -",
     "in tty6 61",

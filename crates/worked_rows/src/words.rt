@@ -6,6 +6,7 @@ use kern_core::Kernel;
 use std::alloc::{AllocError, Global};
 use std::test::Fail;
 use tty_host::{Choice, Status, choose, plain_top};
+use user_db::read_boot;
 
 const USAGE: &str =
     "usage: revtty script [BOOT] | session [BOOT] | load N START | serve DIR BOOT\n";
@@ -76,7 +77,7 @@ fn tables(rt: HostRuntime) {
 
 /// A write at a kernel wakes line 7, and what is copied is the same.
 #[test]
-fn copies_and_one_step(rt: HostRuntime) {
+fn copies_and_one_step(rt: HostRuntime) -> Result<(), Fail> {
     let open = Event::Call {
         slot: 0,
         call: Call::Open {
@@ -93,11 +94,13 @@ fn copies_and_one_step(rt: HostRuntime) {
             bytes: Piece::from_slice(b"hi").expect(&rt, "a piece"),
         },
     };
-    let mut kernel = Kernel::boot();
+    let boot = read_boot(rt.alloc(), b"").expect(&rt, "a boot");
+    let mut kernel = Kernel::boot(rt.alloc(), &boot)?;
     let mut wakes = Wakes::none();
-    let _ = kernel.step(&open.copy(), &mut wakes);
+    kernel.step(&open.copy(), &mut wakes)?;
     assert_eq!(rt; wakes.copy().lines.as_slice(), [].as_slice());
-    let decision = kernel.step(&write.copy(), &mut wakes);
+    let decision = kernel.step(&write.copy(), &mut wakes)?;
     assert_eq!(rt; wakes.copy().lines.as_slice(), [7].as_slice());
     assert!(rt; matches!(decision.copy(), Decision::Answer(Reply::Num(2))));
+    Ok(())
 }
