@@ -41,12 +41,3 @@ pub use process::{do_setcred, do_setproclabel, do_umask};
 pub use revoke::may_revoke;
 pub use unlink::do_unlink;
 pub use vnode_tree::NoMemory;
-
-#[cfg(test)]
-mod calls_tests;
-#[cfg(test)]
-mod opens_tests;
-#[cfg(test)]
-mod rights_tests;
-#[cfg(test)]
-mod tests;

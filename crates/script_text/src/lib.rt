@@ -13,8 +13,6 @@ mod paths;
 mod print;
 mod read;
 mod rights;
-#[cfg(test)]
-mod tests;
 mod values;
 mod words;
 

@@ -23,8 +23,3 @@ pub use walk::{End, LONGEST_PATH, MOST_PARTS, Walk};
 
 /// How many bytes the name of a node has at most.
 pub const NAME_BYTES: usize = 255;
-
-#[cfg(test)]
-mod names_tests;
-#[cfg(test)]
-mod tests;

@@ -3,7 +3,6 @@ ghost use Rattle.std.specs.Prelude.{◌≡◌, ◌<◌, ◌≤◌, List, Option,
 ghost use Rattle.vnode_tree.specs.Nodes.{Named, IsLive};
 ghost use Rattle.vnode_tree.specs.Walks.{IsLiveEnd, IsFree};
 
-use crate::{End, Kind, Name255, Node, TextText, Tree, TreeFull, Walk, WriteFault};
 use access_rule::Attrs;
 use acl_core::Acl;
 use arrayvec::ArrayVec;
@@ -13,6 +12,7 @@ use std::alloc::Global;
 use std::process::Abort;
 use std::test::Fail;
 use user_db::read_boot;
+use vnode_tree::{End, Kind, Name255, Node, TextText, Tree, TreeFull, Walk, WriteFault};
 
 /// The tree of the empty boot text.
 pub(crate) fn standard(alloc: Global) -> Result<Tree, Fail> {

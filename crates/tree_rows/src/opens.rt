@@ -2,13 +2,13 @@
 ghost use Rattle.std.specs.Prelude.{◌≤◌};
 ghost use Rattle.file_calls.specs.Views.{IsHome, AreOpen};
 
-use crate::calls_tests::{fill, rule, tells};
-use crate::tests::{ask, caller, grade, path_text, tree};
-use crate::{
+use crate::calls::{fill, rule, tells};
+use crate::paths::{ask, caller, grade, path_text, tree};
+use call_words::{Access, Decision, OpenFlags, Piece, Reply, Rule};
+use file_calls::{
     Caller, Descriptors, do_close, do_info, do_open, do_read, do_write, readable_file,
     writable_file,
 };
-use call_words::{Access, Decision, OpenFlags, Piece, Reply, Rule};
 use label_core::{CompSet, Element};
 use std::alloc::Global;
 use std::process::Abort;

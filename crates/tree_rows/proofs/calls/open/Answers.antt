@@ -4,7 +4,7 @@ use Rattle.call_words.specs.declared.node.Kind.{Kind}
 use Rattle.call_words.specs.declared.rules.Rule.{Rule}
 use Rattle.file_calls.specs.Places.{LeadsToNode, node_rule_from}
 use Rattle.file_calls.proofs.Files.{lowest_open}
-use Rattle.file_calls.proofs.calls_tests.open.Goals as goal
+use Rattle.tree_rows.proofs.calls.open.Goals as goal
 
 pub returns : goal.returns
 returns g c =

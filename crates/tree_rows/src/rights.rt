@@ -2,14 +2,14 @@
 //! the first is named.
 ghost use Rattle.file_calls.specs.Views.{IsHome};
 
-use crate::tests::{ask, caller, path_text, tree};
-use crate::{
-    Caller, do_chmod, do_chown, do_getacl, do_getlabel, do_ident, do_info, do_setacl, do_setcred,
-    do_setlabel, do_setproclabel, do_umask, may_revoke,
-};
+use crate::paths::{ask, caller, path_text, tree};
 use acl_core::{Cred, read_list};
 use arrayvec::ArrayVec;
 use call_words::{Decision, Entries, Reply, Rule, WhichList};
+use file_calls::{
+    Caller, do_chmod, do_chown, do_getacl, do_getlabel, do_ident, do_info, do_setacl, do_setcred,
+    do_setlabel, do_setproclabel, do_umask, may_revoke,
+};
 use label_core::{Element, Subject, read_element, read_subject};
 use std::alloc::Global;
 use std::process::Abort;

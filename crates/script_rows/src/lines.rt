@@ -1,14 +1,14 @@
 //! Event lines and answer lines, worked out by hand from docs/TEXTS.md.
-use crate::{
-    AnswerLine, Events, one_grammar, paths_are_read_as_spelled, print_answer, read_event_line,
-    words_are_read_back,
-};
 use acl_core::print_entries;
 use arrayvec::ArrayVec;
 use call_words::{
     Call, Decision, Event, OpenFlags, PathText, Piece, Reply, Rule, TextBuf, Wakes, WhichList,
 };
 use label_core::{print_element, print_subject};
+use script_text::{
+    AnswerLine, Events, one_grammar, paths_are_read_as_spelled, print_answer, read_event_line,
+    words_are_read_back,
+};
 use std::alloc::Global;
 use std::process::Abort;
 use std::test::Fail;

@@ -1,12 +1,12 @@
 //! The calls, each with the rules that deny it, where of two that hold at once the first is named.
 ghost use Rattle.file_calls.specs.Views.{IsHome, AreOpen};
 
-use crate::tests::{ask, caller, grade, path_text, tree};
-use crate::{
+use crate::paths::{ask, caller, grade, path_text, tree};
+use call_words::{Decision, Reply, Rule};
+use file_calls::{
     Caller, Descriptors, OpenFile, do_chdir, do_info, do_list, do_mkdir, do_rmdir, do_unlink,
     find_node,
 };
-use call_words::{Decision, Reply, Rule};
 use label_core::Element;
 use std::alloc::Global;
 use std::process::Abort;

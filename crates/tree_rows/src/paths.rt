@@ -5,11 +5,11 @@ ghost use Rattle.vnode_tree.specs.Walks.{IsFree};
 ghost use Rattle.file_calls.specs.Places.{IsLivePlace};
 ghost use Rattle.file_calls.specs.Views.{IsHome};
 
-use crate::{Caller, Place, find, find_node, make_node};
 use access_rule::Attrs;
 use acl_core::{Acl, Cred};
 use arrayvec::ArrayVec;
 use call_words::{PathText, Rule};
+use file_calls::{Caller, Place, find, find_node, make_node};
 use label_core::{CompSet, Element, Subject};
 use std::alloc::Global;
 use std::process::Abort;

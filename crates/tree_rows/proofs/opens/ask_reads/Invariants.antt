@@ -1,5 +1,5 @@
 use Rattle.file_calls.specs.Views.{AreOpen}
-use Rattle.file_calls.proofs.opens_tests.ask_writes.Given as goal
+use Rattle.tree_rows.proofs.opens.ask_reads.Given as goal
 
 -- the files are open
 abbrev pub invariant-loop-active : goal.invariant-loop-active

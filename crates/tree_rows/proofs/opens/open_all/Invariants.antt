@@ -1,5 +1,5 @@
 use Rattle.file_calls.specs.Views.{IsHome, AreOpen}
-use Rattle.file_calls.proofs.opens_tests.open_all.Given as goal
+use Rattle.tree_rows.proofs.opens.open_all.Given as goal
 
 -- the working directory is there, and the files so far are open
 abbrev pub invariant-loop-number : goal.invariant-loop-number
