@@ -24,6 +24,3 @@ pub use print::{print_entries, print_list};
 pub use read::{ListFault, read_list};
 pub use text::{LIST_ROOM, TEXT_ROOM};
 pub use valid::AclFault;
-
-#[cfg(test)]
-mod tests;

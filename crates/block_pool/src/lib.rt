@@ -20,6 +20,3 @@ pub const BLOCK_BYTES: usize = 128;
 
 /// How many blocks a lease has at most.
 pub const LEASE_BLOCKS: usize = 40;
-
-#[cfg(test)]
-mod tests;

@@ -2,3 +2,4 @@ pub mod Rules
 pub mod Calls
 pub mod Events
 pub mod Images
+pub mod Groups

@@ -11,6 +11,7 @@ mod image;
 mod limits;
 mod lists;
 mod node;
+mod push;
 mod rules;
 mod text;
 
@@ -23,5 +24,6 @@ pub use limits::{
 };
 pub use lists::{Entries, WhichList};
 pub use node::{Kind, Node};
+pub use push::{push_bytes, push_number};
 pub use rules::{Errno, Rule};
 pub use text::{InPlace, PATH_BYTES, PIECE_BYTES, PathText, Piece, TEXT_BYTES, TextBuf};

@@ -6,7 +6,7 @@ use Rattle.std.specs.List.{flat_map, join_with_byte}
 use Rattle.std.specs.Str.{byte}
 use Rattle.std.proofs.lemmas.Bool.{eq-eqb, ne_eqb}
 use Rattle.std.proofs.lemmas.List.Concat.{flat_map-cons}
-use Rattle.script_text.specs.Rights.{groups_word}
+use Rattle.call_words.specs.Groups.{groups_word}
 
 -- no groups are a dash
 pub no_groups : (ns : List ℕ) → length ns ≡ 0 → groups_word ns ≡ codes "-"

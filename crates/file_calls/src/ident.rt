@@ -3,7 +3,7 @@ ghost use Rattle.std.specs.Prelude.{◌≡◌, ◌+◌, ◌*◌, ◌≤◌, ◌+
 ghost use Rattle.std.specs.Fmt.{decimal};
 ghost use Rattle.std.specs.List.{flat_map};
 ghost use Rattle.arrayvec.specs.ArrayVec.{array_vec_len};
-ghost use Rattle.script_text.specs.Rights.{groups_word};
+ghost use Rattle.call_words.specs.Groups.{groups_word};
 ghost use Rattle.machine_model.specs.CallerCalls.{ident_text, ident_row};
 ghost use Rattle.machine_model.specs.Rows.{Does};
 ghost use Rattle.machine_model.specs.View.{Queues};
@@ -15,9 +15,8 @@ use crate::Caller;
 use crate::answer::text;
 use acl_core::MOST_GROUPS;
 use arrayvec::ArrayVec;
-use call_words::{Decision, TEXT_BYTES, TextBuf};
+use call_words::{Decision, TEXT_BYTES, TextBuf, push_bytes, push_number};
 use label_core::print_subject;
-use script_text::{push_bytes, push_number};
 
 /// A text that is being made.
 type Text = ArrayVec<u8, TEXT_BYTES>;

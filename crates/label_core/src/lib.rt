@@ -19,6 +19,3 @@ pub use fault::{LabelFault, LabelKind};
 pub use printing::{ELEMENT_ROOM, LABEL_ROOM, TEXT_ROOM, print_element, print_subject};
 pub use reading::{read_element, read_subject};
 pub use subject::{Subject, inside, may_become, may_relabel};
-
-#[cfg(test)]
-mod tests;

@@ -8,7 +8,7 @@ use Rattle.label_core.specs.Text.{subject_text}
 use Rattle.acl_core.specs.declared.cred.Cred.{Cred}
 use Rattle.call_words.specs.declared.rules.Rule.TheVariants.{Super, Proclabel}
 use Rattle.access_rule.specs.Access.{is_superuser}
-use Rattle.script_text.specs.Rights.{groups_word}
+use Rattle.call_words.specs.Groups.{groups_word}
 use Rattle.machine_model.specs.State.{Caller}
 use Rattle.machine_model.specs.View.{View}
 use Rattle.machine_model.specs.Effects.{became}

@@ -12,7 +12,4 @@ pub mod Uses
 pub mod Step
 pub mod Run
 pub mod Stands
-pub mod Reading
-pub mod Script
-pub mod Seen
 pub mod Laws

@@ -4,6 +4,5 @@
 //! `specs/` has four layers: the state (open files named by the position of their event, bytes
 //! with the position of the event that brought them), the view (what calls can see of a state),
 //! the rows (for each event its ordered lines, its effects and its answer) and the laws of a
-//! run. `proofs/` shows that the view steps as the state does, that the laws hold of every run,
-//! and that the definitions compute the worked runs.
+//! run. `proofs/` shows that the view steps as the state does, and that the laws hold of every run.
 #![tactic(auto)]

@@ -7,7 +7,8 @@ use Rattle.std.specs.Str.{bytes_eq}
 use Rattle.std.proofs.lemmas.Bool.{le-leb, ne_eqb, and_parts, false_from_ne_true}
 use Rattle.std.proofs.lemmas.List.Splits.{slice_split_none, slice_split_at}
 use Rattle.script_text.specs.Words.{is_digit, parted}
-use Rattle.script_text.specs.Rights.{ids_of, groups_of, groups_word}
+use Rattle.call_words.specs.Groups.{groups_word}
+use Rattle.script_text.specs.Rights.{ids_of, groups_of}
 use Rattle.script_text.specs.Grammar.{IsId}
 use Rattle.script_text.proofs.Chosen.{same_text}
 use Rattle.script_text.proofs.Digits.{digit_range}

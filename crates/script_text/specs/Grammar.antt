@@ -23,7 +23,8 @@ use Rattle.call_words.specs.declared.events.Event.TheVariants as event
 use Rattle.script_text.specs.Words.{words, bytes_of_word, hex_word}
 use Rattle.script_text.specs.Paths.{path_of, path_word}
 use Rattle.script_text.specs.Values.{slot_of, line_of, fd_of, max_of, taken_of, from_of, mode_of, access_of, flags_of, no_flags, default_mode, line_word, mode_word, access_word, flags_word}
-use Rattle.script_text.specs.Rights.{id_of, groups_of, which_of, entries_of, label_of, subject_label_of, groups_word, which_word}
+use Rattle.script_text.specs.Rights.{id_of, groups_of, which_of, entries_of, label_of, subject_label_of, which_word}
+use Rattle.call_words.specs.Groups.{groups_word}
 use Rattle.script_text.specs.Reading.{arrivals}
 
 pub data Field : Type 0 where

@@ -1,8 +1,6 @@
 -- The words of users and groups, of which list of a node is meant, of access lists and of labels. The
 -- texts of a list and of a label are those of acl_core and label_core.
-use Rattle.std.specs.Prelude.{ℕ, ◌^◌, ◌==◌, List, [], ◌∷◌, length, map, Option, Some, None, nat_le, if◌then◌else◌, codes, option_map, option_and_then}
-use Rattle.std.specs.List.{join_with_byte}
-use Rattle.std.specs.Fmt.{decimal}
+use Rattle.std.specs.Prelude.{ℕ, ◌^◌, ◌==◌, List, [], ◌∷◌, length, Option, Some, None, nat_le, if◌then◌else◌, codes, option_map, option_and_then}
 use Rattle.std.specs.Str.{bytes_eq, byte}
 use Rattle.std.specs.Result.{result_ok}
 use Rattle.label_core.specs.declared.element.Element.{Element}
@@ -50,10 +48,7 @@ label_of w = result_ok (element_of w)
 abbrev pub subject_label_of : List ℕ → Option Parts
 subject_label_of w = result_ok (subject_of w)
 
--- the words that are printed of groups, and of which list is meant
-unfoldable pub groups_word : List ℕ → List ℕ
-groups_word groups = if length groups == 0 then codes "-" else join_with_byte (byte "+") (map decimal groups)
-
+-- the word that is printed of which list is meant
 abbrev pub which_word : WhichList → List ℕ
 which_word which.Access = codes "access"
 which_word which.Default = codes "default"

@@ -18,5 +18,5 @@ mod words;
 
 pub use events::Events;
 pub use laws::{one_grammar, paths_are_read_as_spelled, words_are_read_back};
-pub use print::{ANSWER_BYTES, AnswerLine, print_answer, push_bytes, push_number};
+pub use print::{ANSWER_BYTES, AnswerLine, print_answer};
 pub use read::read_event_line;

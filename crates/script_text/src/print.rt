@@ -1,6 +1,5 @@
 //! Answers as lines.
 ghost use Rattle.std.specs.Prelude.{◌≡◌, ℕ, ◌+◌, ◌-◌, ◌*◌, ◌<◌, ◌≤◌, List, [], ◌∷◌, ◌++◌, length, take, flat_map, codes};
-ghost use Rattle.std.specs.Fmt.{decimal};
 ghost use Rattle.hex.specs.Hex.{encode_lower};
 ghost use Rattle.arrayvec.specs.ArrayVec.{array_vec_len};
 ghost use Rattle.call_words.specs.declared.text.TheConstants.{PIECE_BYTES, TEXT_BYTES};
@@ -11,7 +10,7 @@ ghost use Rattle.script_text.specs.Answers.{reply_text, decision_text, asker_tex
 
 use crate::paths::is_plain;
 use arrayvec::ArrayVec;
-use call_words::{Decision, Event, PIECE_BYTES, Reply, TEXT_BYTES, Wakes};
+use call_words::{Decision, Event, PIECE_BYTES, Reply, TEXT_BYTES, Wakes, push_bytes, push_number};
 
 /// How many bytes an answer line has at most.
 pub const ANSWER_BYTES: usize = 16_384;
@@ -24,24 +23,6 @@ const DECISION_ROOM: usize = 5 + TEXT_ROOM;
 
 /// An answer line, in place.
 pub type AnswerLine = ArrayVec<u8, ANSWER_BYTES>;
-
-/// Adds bytes at the end.
-pub fn push_bytes<const N: usize>(out: &mut ArrayVec<u8, N>, bytes: &[u8])
-    requires { array_vec_len out.old + length bytes.now ≤ N }
-    ensures bytes { out.new.items ≡ out.old.items ++ bytes.now }
-    ensures len { array_vec_len out.new ≡ array_vec_len out.old + length bytes.now }
-{
-    let _ = out.try_extend_from_slice(bytes);
-}
-
-/// Adds a number in decimal: at most ten digits.
-pub fn push_number<const N: usize>(out: &mut ArrayVec<u8, N>, number: u32)
-    requires { array_vec_len out.old + 10 ≤ N }
-    ensures bytes { out.new.items ≡ out.old.items ++ decimal number }
-    ensures len { array_vec_len out.new ≤ array_vec_len out.old + 10 }
-{
-    push_bytes(out, itoa::Buffer::new().format(number).as_bytes());
-}
 
 /// The hex digits of bytes, in lower case. `room` has two places for each byte.
 fn push_pairs(out: &mut AnswerLine, bytes: &[u8], room: &mut [u8])

@@ -19,6 +19,3 @@ pub use fault::{NoMemory, ShFault};
 pub use jobs::MOST_COMMANDS;
 pub use line::read_line;
 pub use tree::{Command, Commands, Job, Jobs, Line, Word, Words};
-
-#[cfg(test)]
-mod tests;

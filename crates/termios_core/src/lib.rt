@@ -14,6 +14,3 @@ pub use flags::{Flag, Flags};
 pub use print::{LINE_ROOM, TERMIOS_ROOM, print_termios};
 pub use read::read_termios;
 pub use termios::{DISABLED, Termios};
-
-#[cfg(test)]
-mod tests;

@@ -11,6 +11,3 @@ pub mod toy;
 
 pub use machine::{MOST_EVENTS, Machine, NoMemory};
 pub use recorded::{Recorded, Refused};
-
-#[cfg(test)]
-mod tests;

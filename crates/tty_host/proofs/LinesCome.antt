@@ -6,11 +6,11 @@ use Rattle.std.proofs.lemmas.List.Splits.{slice_split-cons_no}
 use Rattle.std.proofs.lemmas.Bool.{and_parts, lt-leb}
 use Rattle.call_words.specs.declared.events.Event.{Event}
 use Rattle.machine_model.specs.View.{View}
-use Rattle.machine_model.specs.Seen.{out_seen}
-use Rattle.machine_model.specs.Script.{Output, text_end}
-use Rattle.machine_model.proofs.SeenRuns.{out_seen-end}
+use Rattle.script_model.specs.Seen.{out_seen}
+use Rattle.script_model.specs.Script.{Output, text_end}
+use Rattle.script_model.proofs.SeenRuns.{out_seen-end}
 use Rattle.user_db.specs.Lines.{is_newline, without_empty_last, lines}
-use Rattle.machine_model.specs.Reading.{built_events, reads_from}
+use Rattle.script_model.specs.Reading.{built_events, reads_from}
 use Rattle.script_text.specs.Reading.{events_of_line}
 use Rattle.tty_host.specs.declared.run.Stop.{Stop}
 use Rattle.tty_host.specs.Told.{Goes, ended}

@@ -8,11 +8,11 @@ use Rattle.call_words.specs.declared.events.Decision.{Decision}
 use Rattle.call_words.specs.Events.{WakeList}
 use Rattle.machine_model.specs.View.{View}
 use Rattle.machine_model.specs.Step.{view_after, answer_to, wakes, may_want_memory}
-use Rattle.machine_model.specs.Reading.{Asked}
+use Rattle.script_model.specs.Reading.{Asked}
 use Rattle.script_text.specs.Answers.{answer_line}
-use Rattle.machine_model.specs.Script.{Output, full_end}
-use Rattle.machine_model.specs.Seen.{out_seen, joined}
-use Rattle.machine_model.proofs.SeenRuns.{out_seen-full, out_seen-event}
+use Rattle.script_model.specs.Script.{Output, full_end}
+use Rattle.script_model.specs.Seen.{out_seen, joined}
+use Rattle.script_model.proofs.SeenRuns.{out_seen-full, out_seen-event}
 use Rattle.tty_host.specs.declared.run.Stop.{Stop}
 use Rattle.tty_host.specs.declared.run.Stop.TheVariants.{Full, Failed, NoMemory}
 use Rattle.tty_host.specs.Told.{Began, Keeps, Goes}

@@ -3,11 +3,11 @@ use Rattle.std.proofs.Common.{◌≡◌, ℕ, ◌⊎◌, inl, inr, List, [], len
 use Rattle.std.specs.Prelude.{IsOk, IsErr}
 use Rattle.machine_model.specs.State.{boot}
 use Rattle.machine_model.specs.View.{view}
-use Rattle.machine_model.specs.Reading.{reads}
+use Rattle.script_model.specs.Reading.{reads}
 use Rattle.user_db.specs.declared.boot.Boot.{Boot}
 use Rattle.user_db.specs.Boot.{boot_of}
-use Rattle.machine_model.specs.Script.{Output, text_end, run_out, boot_end, after_boot, script_out}
-use Rattle.machine_model.proofs.SeenRuns.{run_out-seen}
+use Rattle.script_model.specs.Script.{Output, text_end, run_out, boot_end, after_boot, script_out}
+use Rattle.script_model.proofs.SeenRuns.{run_out-seen}
 use Rattle.machine_model.proofs.Lawful.{obeys}
 use Rattle.tty_host.specs.declared.run.Run.{Run}
 use Rattle.tty_host.specs.declared.status.Status.{Status}

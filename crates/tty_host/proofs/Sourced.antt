@@ -1,7 +1,7 @@
 -- What a source gave, and how a run of it ends.
 use Rattle.std.proofs.Common.{◌≡◌, ℕ, List, [], ◌++◌, take, Some, None, Option, Ok, Err, inr, refl, sym, ◌∙◌, append-nil, subst}
 use Rattle.edge_io.specs.Outside.{Gave, Appended}
-use Rattle.machine_model.specs.Script.{Output}
+use Rattle.script_model.specs.Script.{Output}
 use Rattle.tty_host.specs.declared.run.Stop.{Stop}
 use Rattle.tty_host.specs.declared.run.Stop.TheVariants.{BadLine, Full, Failed, NoMemory}
 use Rattle.tty_host.specs.declared.status.Status.{Status}

@@ -5,8 +5,8 @@ use Rattle.edge_io.specs.Outside.{Rose, Appended}
 use Rattle.call_words.specs.declared.events.Event.{Event}
 use Rattle.machine_model.specs.View.{View}
 use Rattle.machine_model.specs.Step.{may_want_memory}
-use Rattle.machine_model.specs.Script.{Output, stop_before}
-use Rattle.machine_model.specs.Seen.{joined}
+use Rattle.script_model.specs.Script.{Output, stop_before}
+use Rattle.script_model.specs.Seen.{joined}
 use Rattle.tty_host.specs.declared.run.Stop.{Stop}
 use Rattle.tty_host.specs.declared.run.Stop.TheVariants.{BadLine, Full, Failed, NoMemory}
 use Rattle.tty_host.specs.Told.{Began, Among, Keeps, ended, Goes}

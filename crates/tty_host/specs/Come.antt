@@ -2,9 +2,9 @@
 use Rattle.std.specs.Prelude.{ℕ, ◌+◌, ◌-◌, ◌*◌, List, ◌++◌, Option, length}
 use Rattle.call_words.specs.declared.events.Event.{Event}
 use Rattle.user_db.specs.Lines.{lines}
-use Rattle.machine_model.specs.Reading.{reads_from}
-use Rattle.machine_model.specs.Script.{Output}
-use Rattle.machine_model.specs.Seen.{out_seen}
+use Rattle.script_model.specs.Reading.{reads_from}
+use Rattle.script_model.specs.Script.{Output}
+use Rattle.script_model.specs.Seen.{out_seen}
 use Rattle.tty_host.specs.declared.run.Run.{Run}
 
 -- where these events are asked, and then a bad line comes or none

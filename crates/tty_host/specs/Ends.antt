@@ -1,7 +1,7 @@
 -- How a script ends.
 use Rattle.std.specs.Prelude.{◌≡◌, ◌⊎◌, ℕ, List, Option}
 use Rattle.edge_io.specs.Outside.{Appended}
-use Rattle.machine_model.specs.Script.{Output}
+use Rattle.script_model.specs.Script.{Output}
 use Rattle.tty_host.specs.Told.{Began, StoppedAt}
 use Rattle.tty_host.specs.declared.run.Stop.{Stop}
 use Rattle.tty_host.specs.declared.run.Stop.TheVariants as stop

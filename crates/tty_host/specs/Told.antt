@@ -1,7 +1,7 @@
 -- What was written, and what is still to come.
 use Rattle.std.specs.Prelude.{◌≡◌, ◌⊎◌, ℕ, List, [], ◌∷◌, ◌++◌, Option, Result, Ok, Err}
 use Rattle.edge_io.specs.Outside.{Appended}
-use Rattle.machine_model.specs.Script.{Output}
+use Rattle.script_model.specs.Script.{Output}
 use Rattle.tty_host.specs.declared.run.Stop.{Stop}
 use Rattle.tty_host.specs.declared.run.Stop.TheVariants.{BadLine, Full, Failed, NoMemory}
 

@@ -3,10 +3,10 @@ use Rattle.std.specs.Prelude.{◌≡◌, ℕ, ◌≤◌, ◌⊎◌, List, [], �
 use Rattle.std.specs.Str.{bytes_eq}
 use Rattle.call_words.specs.declared.limits.TheConstants.{TRAIL_EVENTS}
 use Rattle.edge_io.specs.Outside.{Appended}
-use Rattle.machine_model.specs.Reading.{reads}
+use Rattle.script_model.specs.Reading.{reads}
 use Rattle.user_db.specs.declared.boot.Boot.{Boot}
 use Rattle.user_db.specs.Boot.{boot_of}
-use Rattle.machine_model.specs.Script.{script_out}
+use Rattle.script_model.specs.Script.{script_out}
 use Rattle.machine_model.specs.Laws.{ObeysLaws}
 use Rattle.tty_host.specs.Uses.{SourceUse, SinkUse, SourceFailed, SinkFailed, Unread}
 use Rattle.tty_host.specs.Told.{Began}

@@ -4,7 +4,7 @@ ghost use Rattle.std.specs.Prelude.{◌≡◌, ℕ, ◌+◌, ◌<◌, ◌≤◌,
 ghost use Rattle.std.specs.List.{list_all};
 ghost use Rattle.std.specs.Str.{bytes_eq};
 ghost use Rattle.machine_model.specs.Step.{tty7, is_built_call, is_built, MayBeAsked};
-ghost use Rattle.machine_model.specs.Reading.{built_events};
+ghost use Rattle.script_model.specs.Reading.{built_events};
 
 use call_words::{Call, Event, PathText, RAW_LINE};
 use script_text::{Events, read_event_line};
@@ -48,7 +48,7 @@ fn are_built(events: &Events) -> bool
 }
 
 /// The events of a line of a script. `None` exactly where the line is bad.
-#[tactic(auto, unfolding(machine_model::specs::Reading::built_events))]
+#[tactic(auto, unfolding(script_model::specs::Reading::built_events))]
 pub fn read_built_line(line: &[u8]) -> Option<Events>
     ensures events { result ≡ built_events line.now }
     ensures asked { IfSome result (All MayBeAsked) }

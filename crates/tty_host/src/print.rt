@@ -1,11 +1,12 @@
 //! The last lines of a script that does not end well.
 ghost use Rattle.std.specs.Prelude.{◌≡◌, ◌+◌, ◌≤◌, ◌++◌, Some};
-ghost use Rattle.machine_model.specs.Script.{text_end, boot_end};
+ghost use Rattle.script_model.specs.Script.{text_end, boot_end};
 
-use script_text::{AnswerLine, push_bytes, push_number};
+use call_words::{push_bytes, push_number};
+use script_text::AnswerLine;
 
 /// The last line of a script with a bad line.
-#[tactic(auto, unfolding(machine_model::specs::Script::text_end))]
+#[tactic(auto, unfolding(script_model::specs::Script::text_end))]
 pub fn bad_line(number: u32) -> AnswerLine
     ensures { result.items ≡ (text_end (Some number)).bytes }
 {

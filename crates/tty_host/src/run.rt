@@ -7,7 +7,7 @@ ghost use Rattle.user_db.specs.Boot.{IsBoot};
 ghost use Rattle.machine_model.specs.State.{boot};
 ghost use Rattle.machine_model.specs.View.{view};
 ghost use Rattle.machine_model.specs.Step.{MayBeAsked};
-ghost use Rattle.machine_model.specs.Script.{Output, text_end};
+ghost use Rattle.script_model.specs.Script.{Output, text_end};
 ghost use Rattle.tty_host.specs.Told.{Began};
 ghost use Rattle.tty_host.specs.Ends.{IsScriptStatus, stop_status};
 ghost use Rattle.tty_host.specs.OneLine.{is_one_line};

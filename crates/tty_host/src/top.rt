@@ -3,8 +3,8 @@ ghost use Rattle.std.specs.Prelude.{◌≡◌, ℕ, List, [], map, Option, Some}
 ghost use Rattle.std.specs.String.{string_bytes};
 ghost use Rattle.edge_io.specs.Outside.{Rose};
 ghost use Rattle.user_db.specs.Boot.{IsBoot};
-ghost use Rattle.machine_model.specs.Reading.{reads};
-ghost use Rattle.machine_model.specs.Script.{run_out};
+ghost use Rattle.script_model.specs.Reading.{reads};
+ghost use Rattle.script_model.specs.Script.{run_out};
 ghost use Rattle.tty_host.specs.Ends.{IsScriptStatus, Writes};
 ghost use Rattle.tty_host.specs.Uses.{source_use, sink_use};
 ghost use Rattle.tty_host.specs.Tops.{RanScript, WroteUsage, choice_of};

@@ -17,6 +17,3 @@ pub use line::{BOOT_LINE_BYTES, BOOT_LINES, BOOT_TEXT_BYTES};
 pub use name::{NAME_BYTES, Name};
 pub use read::read_boot;
 pub use user::{DIGEST_BYTES, SALT_BYTES, User, Users};
-
-#[cfg(test)]
-mod tests;

@@ -72,7 +72,7 @@ impl Users {
     }
 
     /// Puts a user behind the others. Without memory nothing changes.
-    pub(crate) fn push(&mut self, user: User) -> Result<(), NoMemory>
+    pub fn push(&mut self, user: User) -> Result<(), NoMemory>
         ensures { self.new ≡ (if is_ok result then self.old ++ user ∷ [] else self.old) }
     {
         self.items.push(user)?;

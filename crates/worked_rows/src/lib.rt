@@ -5,10 +5,26 @@
 #![tactic(auto)]
 
 #[cfg(test)]
-mod boots;
+mod directories;
 #[cfg(test)]
-mod faults;
+mod files;
 #[cfg(test)]
-mod rows;
+mod listings;
+#[cfg(test)]
+mod opens;
+#[cfg(test)]
+mod paths;
+#[cfg(test)]
+mod revokes;
+#[cfg(test)]
+mod rights;
+#[cfg(test)]
+mod runs;
+#[cfg(test)]
+mod session;
+#[cfg(test)]
+mod sessions;
+#[cfg(test)]
+mod standard;
 #[cfg(test)]
 mod words;

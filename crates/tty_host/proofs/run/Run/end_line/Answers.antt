@@ -1,6 +1,6 @@
 use Rattle.std.proofs.Common.{ap, ◌∙◌}
 use Rattle.std.proofs.lemmas.Result.{err_from_is_err_and}
-use Rattle.machine_model.specs.Reading.{built_events}
+use Rattle.script_model.specs.Reading.{built_events}
 use Rattle.tty_host.proofs.Told.{goes-at, goes-stop}
 use Rattle.tty_host.proofs.LinesCome.{good-line, bad-line}
 use Rattle.tty_host.proofs.run.Run.end_line.Goals as goal

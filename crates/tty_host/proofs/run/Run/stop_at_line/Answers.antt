@@ -1,5 +1,5 @@
 use Rattle.std.proofs.Common.{Some}
-use Rattle.machine_model.specs.Script.{text_end}
+use Rattle.script_model.specs.Script.{text_end}
 use Rattle.tty_host.proofs.Told.{keeps-last, goes-bad, goes-failed}
 use Rattle.tty_host.proofs.run.Run.stop_at_line.Goals as goal
 

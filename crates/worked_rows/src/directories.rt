@@ -1,0 +1,116 @@
+//! chdir(2), mkdir(2), rmdir(2), unlink(2), readdir(3) and stat(2), where of two rules that hold at once the first is named.
+
+use crate::session::check;
+use std::test::Fail;
+
+/// Nodes of the superuser with the mode 755, some of a grade. `/tmp/f` and `/tmp/low` stay open. Then a user of grade 10 asks.
+const MADE: &str = "
+0 mkdir /tmp/closed 700 -> 0 ok 0
+0 mkdir /tmp/secret 700 -> 0 ok 0
+0 mkdir /tmp/shut 777 -> 0 ok 0
+0 mkdir /tmp/shut/d 777 -> 0 ok 0
+0 mkdir /tmp/d 777 -> 0 ok 0
+0 mkdir /tmp/full 777 -> 0 ok 0
+0 mkdir /tmp/empty 777 -> 0 ok 0
+0 open /tmp/f r c 777 -> 0 ok 0
+0 open /tmp/low r c 777 -> 0 ok 1
+0 open /tmp/g r c 777 -> 0 ok 2
+0 open /tmp/high r c 777 -> 0 ok 3
+0 open /tmp/shut/low r c 777 -> 0 ok 4
+0 open /tmp/d/f r c 777 -> 0 ok 5
+0 open /tmp/full/f r c 777 -> 0 ok 6
+0 close 2 -> 0 ok 0
+0 close 3 -> 0 ok 0
+0 setlabel /tmp/secret mls/20 -> 0 ok 0
+0 setlabel /tmp/high mls/20 -> 0 ok 0
+0 setlabel /tmp/low mls/5 -> 0 ok 0
+0 setlabel /tmp/shut/low mls/5 -> 0 ok 0
+0 setlabel /tmp/shut/d mls/5 -> 0 ok 0
+0 setlabel /tmp/d/f mls/5 -> 0 ok 0
+0 setlabel /tmp/d mls/5 -> 0 ok 0
+0 setproclabel mls/10(low-high) -> 0 ok 0
+0 setcred 1001 100 - -> 0 ok 0
+";
+
+/// Of the lines with a remark a later rule would hold too.
+const CALLS: &str = "
+0 chdir /tmp/x -> 0 err ENOENT no-entry
+# The label of a file above would deny it too.
+0 chdir /tmp/high -> 0 err ENOTDIR not-dir
+# The list of the closed directory too.
+0 chdir /tmp/secret -> 0 err EACCES label-read
+0 chdir /tmp/closed -> 0 err EACCES search
+0 chdir /tmp -> 0 ok 0
+0 list /tmp/x 0 -> 0 err ENOENT no-entry
+# The same for a listing.
+0 list /tmp/high 0 -> 0 err ENOTDIR not-dir
+0 list /tmp/secret 0 -> 0 err EACCES label-read
+0 list /tmp/closed 0 -> 0 err EACCES list
+0 info /tmp/x -> 0 err ENOENT no-entry
+0 info /tmp/high -> 0 err EACCES label-read
+0 info /tmp/closed -> 0 text dir:0:0:700:0
+0 mkdir /tmp/closed/x 770 -> 0 err EACCES search
+# The label of `/` would deny this too, and the list of `/bin` the next.
+0 mkdir /bin 770 -> 0 err EEXIST exists
+0 mkdir /bin/x 770 -> 0 err EACCES label-write
+0 mkdir /dev/x 770 -> 0 err EACCES list
+# The label of `/`, the list of `/dev` and the list of `/bin` would deny these too.
+0 unlink /bin -> 0 err EISDIR is-dir
+0 unlink /dev/tty0 -> 0 err EBUSY device
+0 unlink /dev/tty -> 0 err EBUSY device
+0 unlink /bin/cat -> 0 err EACCES label-write
+# The label of the node too, and that it is open.
+0 unlink /tmp/shut/low -> 0 err EACCES list
+0 unlink /tmp/low -> 0 err EACCES label-write
+0 unlink /tmp/f -> 0 err EBUSY in-use
+0 unlink /tmp/g -> 0 ok 0
+0 unlink /tmp/g -> 0 err ENOENT no-entry
+# The label of the directory above too, and its list.
+0 rmdir /bin/cat -> 0 err ENOTDIR not-dir
+0 rmdir / -> 0 err EBUSY in-use
+0 rmdir /bin -> 0 err EACCES label-write
+# The label of the node too, and that it has nodes.
+0 rmdir /tmp/shut/d -> 0 err EACCES list
+0 rmdir /tmp/d -> 0 err EACCES label-write
+# It is the working directory too.
+0 chdir /tmp/full -> 0 ok 0
+0 rmdir . -> 0 err ENOTEMPTY not-empty
+0 chdir /tmp/empty -> 0 ok 0
+0 rmdir . -> 0 err EBUSY in-use
+0 chdir .. -> 0 ok 0
+0 rmdir empty -> 0 ok 0
+0 info empty -> 0 err ENOENT no-entry
+";
+
+/// A new directory is its maker's until it goes.
+const OWN: &str = "
+0 mkdir /tmp/x 777 -> 0 ok 0
+0 info /tmp/x -> 0 text dir:1001:0:755:0
+0 getlabel /tmp/x -> 0 text mls/10
+0 list /tmp/x 0 -> 0 text -
+0 list /tmp/x 65535 -> 0 text -
+0 rmdir /tmp/x -> 0 ok 0
+0 info /tmp/x -> 0 err ENOENT no-entry
+";
+
+#[test]
+fn each_call_on_directories_is_denied_by_its_first_rule(rt: HostRuntime) -> Result<(), Fail> {
+    check(&rt, rt.alloc(), "", &[MADE, CALLS, OWN])
+}
+
+/// Names come in the order of their bytes, from a number on.
+const NAMES: &str = "
+0 mkdir /tmp/b 700 -> 0 ok 0
+0 mkdir /tmp/ab 700 -> 0 ok 0
+0 mkdir /tmp/a 700 -> 0 ok 0
+0 list /tmp 0 -> 0 text a/ab/b
+0 list /tmp 1 -> 0 text ab/b
+0 list /tmp 2 -> 0 text b
+0 list /tmp 3 -> 0 text -
+0 list /tmp 65535 -> 0 text -
+";
+
+#[test]
+fn names_are_listed_in_their_order(rt: HostRuntime) -> Result<(), Fail> {
+    check(&rt, rt.alloc(), "", &[NAMES])
+}

@@ -1,0 +1,56 @@
+//! Who may revoke a line (revoke(2)), asked of nodes that no script names in a revoke yet.
+ghost use Rattle.file_calls.specs.Views.{IsHome};
+
+use acl_core::Cred;
+use arrayvec::ArrayVec;
+use call_words::{PathText, Rule};
+use file_calls::{Caller, may_revoke};
+use label_core::{Element, Subject};
+use std::process::Abort;
+use std::test::Fail;
+use user_db::read_boot;
+use vnode_tree::Tree;
+
+const SUPERUSER: u32 = 0;
+
+const USER: u32 = 1001;
+
+/// Who asks, of a uid, in the root directory.
+fn asker(rt: &impl Abort, tree: &Tree, uid: u32) -> Caller
+    ensures { IsHome tree.now result }
+{
+    Caller {
+        cred: Cred {
+            uid,
+            gid: 100,
+            groups: ArrayVec::new(),
+        },
+        label: Subject::new(Element::Equal, Element::Low, Element::High).expect(rt, "a subject"),
+        directory: tree.root(),
+        umask: 0o022,
+    }
+}
+
+/// Uids, paths, and the rule that denies a revoke. Of those with a remark a later rule would hold too.
+const REVOKES: [(u32, &str, Option<Rule>); 6] = [
+    (SUPERUSER, "/tmp/x", Some(Rule::NoEntry)),
+    (SUPERUSER, "/tmp", Some(Rule::NoRevoke)),
+    // `/dev/tty` is no line.
+    (SUPERUSER, "/dev/tty", Some(Rule::NoRevoke)),
+    // The owner.
+    (USER, "/bin/cat", Some(Rule::NoRevoke)),
+    (USER, "/dev/tty0", Some(Rule::Owner)),
+    (SUPERUSER, "/dev/tty0", None),
+];
+
+#[test]
+fn the_owner_of_a_line_may_revoke_it(rt: HostRuntime) -> Result<(), Fail> {
+    let boot = read_boot(rt.alloc(), b"")?;
+    let tree = Tree::new(rt.alloc(), &boot)?;
+    for (uid, path, denied) in REVOKES {
+        let path_text = PathText::from_slice(path.as_bytes()).expect(&rt, "a path");
+        let answer = may_revoke(&tree, &asker(&rt, &tree, uid), &path_text);
+        assert_eq!(rt; answer.err(), denied, "{path:?}");
+    }
+    Ok(())
+}

@@ -1,0 +1,187 @@
+//! Runs of the program of which texts, lengths or faults are what matters.
+
+use crate::session::{Faults, Session, expanded};
+use std::alloc::Global;
+use std::test::Fail;
+
+/// Scripts as texts. A row is a command line, a boot text, a script, what is written, and numbers: the status, the calls at which the boot source,
+/// the script and the sink fail, and how many bytes the sink takes. A number that is not there is 0: no fault, and room enough.
+const SCRIPTS: &str = "
+# Nothing is asked.
+script b^^^^0
+# The last close empties both queues, and the last line lacks its newline.
+script b^^0 open /dev/tty7 w|0 open /dev/tty7 r|in tty7 4142|0 write 0 6162|0 close 0|take tty7 1|0 close 1|0 open /dev/tty7 rw|0 read 0 9|take tty7 512^0 ok 0|0 ok 1|tty7 noted|tty7 noted|0 ok 2|0 ok 0|tty7 out 61|0 ok 0|0 ok 0|0 err EAGAIN not-ready|tty7 out -|^0
+# Capital hex digits, no bytes, a part of a read, the highest slot, and a count of 0.
+script b^^0 open /dev/tty7 rw|in tty7 4a4B4c|0 read 0 2|0 read 0 0|0 write 0 -|31 close 255|0 close 255|0 read 0 65535|^0 ok 0|tty7 noted|tty7 noted|tty7 noted|0 bytes 4a4b|0 bytes -|0 ok 0|31 gone|0 err EBADF bad-fd|0 err EINVAL size|^0
+# Refusals up to a bad line.
+script b^^0 read 3 5|0 open /dev/tty7 r|0 write 0 61|0 read 0 513|0 read 0 5|1 close 0|0 fork|0 close 0|^0 err EBADF bad-fd|0 ok 0|0 err EBADF fd-mode|0 err EINVAL size|0 err EAGAIN not-ready|1 gone|line 7|^2
+";
+
+/// Each way for a line to be bad. Nothing of it is run, and nothing behind it.
+const BAD_LINES: &str = "
+script b^^1 close 0||1 close 0|^1 gone|line 2|^2
+script b^^1 close 0| |1 close 0|^1 gone|line 2|^2
+script b^^1 close 0| 0 close 0|1 close 0|^1 gone|line 2|^2
+script b^^1 close 0|0 close 0 |1 close 0|^1 gone|line 2|^2
+script b^^1 close 0|0  close 0|1 close 0|^1 gone|line 2|^2
+script b^^1 close 0|0\tclose 0|1 close 0|^1 gone|line 2|^2
+script b^^1 close 0|0 close 0\r|1 close 0|^1 gone|line 2|^2
+script b^^1 close 0|0 close 0\0|1 close 0|^1 gone|line 2|^2
+script b^^1 close 0|0 close \x7f|1 close 0|^1 gone|line 2|^2
+script b^^1 close 0|# a comment|1 close 0|^1 gone|line 2|^2
+script b^^1 close 0|0|1 close 0|^1 gone|line 2|^2
+script b^^1 close 0|0 jump|1 close 0|^1 gone|line 2|^2
+script b^^1 close 0|0 close|1 close 0|^1 gone|line 2|^2
+script b^^1 close 0|0 close 0 0|1 close 0|^1 gone|line 2|^2
+script b^^1 close 0|0 close 256|1 close 0|^1 gone|line 2|^2
+script b^^1 close 0|0 close 00|1 close 0|^1 gone|line 2|^2
+script b^^1 close 0|0 close +1|1 close 0|^1 gone|line 2|^2
+script b^^1 close 0|0 close -1|1 close 0|^1 gone|line 2|^2
+script b^^1 close 0|0 close 0x1|1 close 0|^1 gone|line 2|^2
+script b^^1 close 0|32 close 0|1 close 0|^1 gone|line 2|^2
+script b^^1 close 0|00 close 0|1 close 0|^1 gone|line 2|^2
+script b^^1 close 0|0 read 0 65536|1 close 0|^1 gone|line 2|^2
+script b^^1 close 0|0 write 0 6|1 close 0|^1 gone|line 2|^2
+script b^^1 close 0|0 write 0 6g|1 close 0|^1 gone|line 2|^2
+script b^^1 close 0|0 open /dev/tty7|1 close 0|^1 gone|line 2|^2
+script b^^1 close 0|0 open /dev/tty7 wr|1 close 0|^1 gone|line 2|^2
+script b^^1 close 0|0 open /dev/tty7 rw 600|1 close 0|^1 gone|line 2|^2
+script b^^1 close 0|0 mkdir /tmp/d|1 close 0|^1 gone|line 2|^2
+script b^^1 close 0|0 umask 1000|1 close 0|^1 gone|line 2|^2
+script b^^1 close 0|0 revoke /dev/tty0|1 close 0|^1 gone|line 2|^2
+script b^^1 close 0|in tty7 -|1 close 0|^1 gone|line 2|^2
+script b^^1 close 0|in tty6 61|1 close 0|^1 gone|line 2|^2
+script b^^1 close 0|in tty7 6|1 close 0|^1 gone|line 2|^2
+script b^^1 close 0|take tty7 0|1 close 0|^1 gone|line 2|^2
+script b^^1 close 0|take tty7 513|1 close 0|^1 gone|line 2|^2
+";
+
+/// The longest lines and the longest run.
+const LENGTHS: &str = "
+# A write of 513 bytes is a bad line, and one of 512 is whole. The longest line has 4,096 bytes: one of them is bad by its word,
+# a number that is too great, and one with a byte more before it is looked at.
+script b^^0 write 0 ~61*512~|^0 err EBADF bad-fd|^0
+script b^^0 write 0 ~61*513~|^line 1|^2
+script b^^~7*4096~|1 close 0|^line 1|^2
+script b^^~7*4097~|1 close 0|^line 1|^2
+script b^^~7*10000~|1 close 0|^line 1|^2
+# 262,144 events are the most that a run has.
+script b^^~take tty7 1|*262144~^~tty7 out -|*262144~^0
+script b^^~take tty7 1|*262145~^~tty7 out -|*262144~full|^6
+";
+
+/// Boot texts over the empty script.
+const BOOTS: &str = "
+script b^^^^0
+script b^recheck on|^^^0
+script b^recheck on^^^0
+script b^recheck off|^^^0
+script b^recheck off^^^0
+script b^|^^boot line 1|^2
+script b^||^^boot line 1|^2
+script b^|recheck on|^^boot line 1|^2
+script b^recheck on||^^boot line 2|^2
+script b^recheck on|recheck on|^^boot line 2|^2
+script b^recheck on|recheck off^^boot line 2|^2
+script b^recheck off|recheck on|recheck on^^boot line 2|^2
+script b^recheck off|user|recheck on^^boot line 2|^2
+script b^recheck|^^boot line 1|^2
+script b^recheck  on^^boot line 1|^2
+script b^ recheck on^^boot line 1|^2
+script b^recheck on ^^boot line 1|^2
+script b^recheck\ton^^boot line 1|^2
+script b^recheck on\r|^^boot line 1|^2
+script b^Recheck on^^boot line 1|^2
+script b^recheck onn^^boot line 1|^2
+script b^recheck o^^boot line 1|^2
+script b^recheck maybe|recheck on^^boot line 1|^2
+script b^recheck on|0 close 0|^^boot line 2|^2
+# A boot text has at most 1,048,832 bytes, so 2,049 pieces of 512 are enough to see that it is none, and no further one is read.
+script b^~x*2000000~^^^3 2049
+script b^~x*2000000~^^boot line 1|^2 2050
+";
+
+/// Sources and sinks that fail.
+const FAULTS: &str = "
+# The boot text of a file, and none.
+script b^^0 open /dev/tty7 rw|0 write 0 6869|take tty7 9|^0 ok 0|0 ok 2|tty7 out 6869|^0
+script^^0 open /dev/tty7 rw|0 write 0 6869|take tty7 9|^0 ok 0|0 ok 2|tty7 out 6869|^0
+# The sink fails at its second call and at its first, the script at its first and the boot source; a sink takes nine bytes.
+script b^^0 open /dev/tty7 rw|0 write 0 6869|take tty7 9|^0 ok 0|^4 0 0 2
+script b^^0 open /dev/tty7 rw|0 write 0 6869|take tty7 9|^^4 0 0 1
+script b^^0 open /dev/tty7 rw|0 write 0 6869|take tty7 9|^^3 0 1
+script b^^0 open /dev/tty7 rw|0 write 0 6869|take tty7 9|^^3 1
+script b^^0 open /dev/tty7 rw|0 write 0 6869|take tty7 9|^0 ok 0|0 ^4 0 0 0 9
+# A bad boot text over a script that fails, the same with a sink that fails, and a boot source that fails at its second call.
+script b^recheck off||^0 open /dev/tty7 rw|0 write 0 6869|take tty7 9|^boot line 2|^2 0 1
+script b^|^0 open /dev/tty7 rw|0 write 0 6869|take tty7 9|^^4 0 1 1
+script b^recheck on^0 open /dev/tty7 rw|0 write 0 6869|take tty7 9|^^3 2 1
+";
+
+/// A number, or 0 where there is none.
+fn number(word: Option<&str>) -> u64 {
+    match word {
+        Some(word) => word.parse::<u64>().unwrap_or(0),
+        None => 0,
+    }
+}
+
+/// The numbers of a row: the status, the faults and the room.
+fn numbers(text: &str) -> (u64, Faults, usize) {
+    let mut words = text.split(' ');
+    let status = number(words.next());
+    let faults = Faults {
+        boot: number(words.next()),
+        script: number(words.next()),
+        sink: number(words.next()),
+    };
+    match number(words.next()) {
+        0 => (status, faults, 4_000_000),
+        room => (status, faults, room.min(4_000_000) as usize),
+    }
+}
+
+/// The run of a row.
+fn run_of(alloc: Global, row: &str) -> Result<Session, Fail> {
+    let mut fields = row.split('^');
+    let command = fields.next().unwrap_or("");
+    let boot_text = fields.next().unwrap_or("");
+    let script = fields.next().unwrap_or("");
+    let answers = fields.next().unwrap_or("");
+    let (status, faults, room) = numbers(fields.next().unwrap_or(""));
+    Ok(Session {
+        command: command.to_string(alloc)?,
+        boot_text: expanded(alloc, boot_text, 0)?,
+        script: expanded(alloc, script, 0)?,
+        answers: expanded(alloc, answers, 0)?,
+        faults,
+        room,
+        status,
+    })
+}
+
+#[test]
+fn runs_of_texts_lengths_and_faults(rt: HostRuntime) -> Result<(), Fail> {
+    for table in [SCRIPTS, BAD_LINES, LENGTHS, BOOTS, FAULTS] {
+        for row in table.split_terminator('\n') {
+            if !row.is_empty() && !row.starts_with('#') {
+                run_of(rt.alloc(), row)?.check(&rt, rt.alloc())?;
+            }
+        }
+    }
+    Ok(())
+}
+
+/// Words of no form, and forms that are not built yet, give the usage line, and so nothing is read.
+#[test]
+fn usage(rt: HostRuntime) -> Result<(), Fail> {
+    for command in ["script a b", "jump", "", "jump b", "session b", "Script"] {
+        let mut session = run_of(rt.alloc(), "^^^^1 1 1")?;
+        session.command.push_str(command)?;
+        session.answers.extend_from_slice(
+            b"usage: revtty script [BOOT] | session [BOOT] | load N START | serve DIR BOOT\n",
+        )?;
+        session.check(&rt, rt.alloc())?;
+    }
+    Ok(())
+}
