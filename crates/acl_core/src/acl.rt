@@ -13,7 +13,7 @@ use arrayvec::ArrayVec;
 use std::marker::Model;
 
 /// A valid list in place, seen as its entries in the printed order.
-#[derive(Debug, Drop)]
+#[derive(Drop)]
 pub struct Acl {
     entries: ArrayVec<Entry, MOST_ENTRIES>,
 }

@@ -9,7 +9,7 @@ pub const MOST_GROUPS: usize = 16;
 
 /// Who asks: a user, a group, and supplementary groups. The groups are kept as they are given, in
 /// their order and with repeats; a check looks at them as a set.
-#[derive(Debug, Drop)]
+#[derive(Drop)]
 pub struct Cred {
     pub uid: u32,
     pub gid: u32,

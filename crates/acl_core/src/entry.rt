@@ -7,7 +7,7 @@ pub const MOST_ENTRIES: usize = 64;
 
 /// Whom an entry is about. The order is the one in which a list is printed. The default is for the
 /// unused places of an `ArrayVec`.
-#[derive(Clone, Copy, Debug, Default, PartialEq, Eq, PartialOrd, Ord)]
+#[derive(Clone, Copy, Default, PartialEq, Eq, PartialOrd, Ord)]
 pub enum Tag {
     /// The file's owner.
     #[default]
@@ -25,7 +25,7 @@ pub enum Tag {
 }
 
 /// What a list grants to those whom a tag is about.
-#[derive(Clone, Copy, Debug, Default, PartialEq, Eq)]
+#[derive(Clone, Copy, Default, PartialEq, Eq)]
 pub struct Entry {
     pub tag: Tag,
     pub perm: Perm,

@@ -10,7 +10,7 @@ const EXEC: u16 = 1;
 
 /// The permission to read, to write, and to execute or, of a directory, to search. It is one of
 /// eight, as it has three bits.
-#[derive(Clone, Copy, Debug, Default, PartialEq, Eq)]
+#[derive(Clone, Copy, Default, PartialEq, Eq)]
 pub struct Perm {
     pub read: bool,
     pub write: bool,

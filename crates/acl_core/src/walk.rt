@@ -7,7 +7,7 @@ use crate::{Cred, Entry, Perm, Tag};
 
 /// What is found out for a caller: for each class whether its permission has all bits that are
 /// wanted, and whether the mask has them, where there is one.
-#[derive(Clone, Copy, Debug)]
+#[derive(Clone, Copy)]
 pub(crate) struct Findings {
     pub(crate) owner: bool,
     pub(crate) user: Option<bool>,

@@ -32,7 +32,7 @@ impl Access {
 }
 
 /// The flags of an open (open(2)), all off by default.
-#[derive(Clone, Copy, Debug, Default, PartialEq, Eq)]
+#[derive(Clone, Copy, Default, PartialEq, Eq)]
 pub struct OpenFlags {
     /// `c`: an absent file is created.
     pub create: bool,

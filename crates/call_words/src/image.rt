@@ -6,7 +6,7 @@ ghost use Rattle.call_words.specs.Images.{image_name, images};
 pub const IMAGES: usize = 22;
 
 /// A program: those of init(8), getty(8), login(1) and sh(1), and the tools.
-#[derive(Clone, Copy, Debug, PartialEq, Eq)]
+#[derive(Clone, Copy, PartialEq, Eq)]
 pub enum Image {
     Init,
     Getty,

@@ -7,7 +7,7 @@ use std::marker::Model;
 
 /// Which list of a node: the one that says who may do what with it, or the one that new nodes in a
 /// directory get.
-#[derive(Clone, Copy, Debug, PartialEq, Eq)]
+#[derive(Clone, Copy, PartialEq, Eq)]
 pub enum WhichList {
     Access,
     Default,

@@ -6,7 +6,7 @@ use std::marker::Model;
 /// The name of a node of the file tree. Contracts see its number.
 ///
 /// Only the tree makes names that are live. The root's number is 0.
-#[derive(Clone, Copy, Debug, Default, PartialEq, Eq)]
+#[derive(Clone, Copy, Default, PartialEq, Eq)]
 pub struct Node {
     number: u16,
 }
@@ -42,7 +42,7 @@ impl Node {
 
 /// What a node is: a regular file, a directory, a terminal line of a number, or `/dev/tty`,
 /// which leads to the caller's own line. (tty(4))
-#[derive(Clone, Copy, Debug, PartialEq, Eq)]
+#[derive(Clone, Copy, PartialEq, Eq)]
 pub enum Kind {
     File,
     Dir,

@@ -122,7 +122,7 @@ pub enum Rule {
 }
 
 /// The error number of a refusal, by its name and meaning in intro(2).
-#[derive(Clone, Copy, Debug, PartialEq, Eq)]
+#[derive(Clone, Copy, PartialEq, Eq)]
 pub enum Errno {
     /// Operation not permitted.
     EPERM,

@@ -12,6 +12,3 @@ mod system;
 pub use memory::{MemSink, MemSource};
 pub use outside::{Failed, Sink, Source};
 pub use system::{FileSource, StdinSource, StdoutSink};
-
-#[cfg(test)]
-mod tests;

@@ -44,7 +44,7 @@ impl<R: BufRead + Drop> Source for StdinSource<R> {
 pub struct FileSource<F: Read + Drop> {
     /// The open file, or `None` where it could not be opened: then each read fails.
     file: Option<F>,
-    pub(crate) faults: u64,
+    faults: u64,
 }
 
 impl<F: Read + Drop> FileSource<F> {

@@ -16,7 +16,7 @@ const WORDS: usize = 4;
 /// A finite set of compartments, the numbers 1 to 256, in place.
 ///
 /// Contracts see the numbers that are in it, in rising order.
-#[derive(Debug, Drop)]
+#[derive(Drop)]
 pub struct CompSet {
     words: [u64; WORDS],
 }

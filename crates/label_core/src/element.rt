@@ -8,7 +8,7 @@ use crate::comp_set::CompSet;
 pub(crate) const POLICY: &[u8] = b"mls/";
 
 /// An element of a label, as mac_mls(4) has them.
-#[derive(Debug, PartialEq, Eq, Drop)]
+#[derive(PartialEq, Eq, Drop)]
 pub enum Element {
     /// Below every element.
     Low,

@@ -9,7 +9,7 @@ use std::marker::Model;
 /// in.
 ///
 /// The high end dominates the active element, which dominates the low end.
-#[derive(Debug, PartialEq, Eq, Drop)]
+#[derive(PartialEq, Eq, Drop)]
 pub struct Subject {
     active: Element,
     low: Element,

@@ -1,13 +1,14 @@
 //! Labels and lists together, and which of them is named.
 
+use crate::labels::{element_of, subject_of};
 use crate::lists::list_of;
-use crate::rows::parted;
+use crate::rows::fields_of;
 use access_rule::{Attrs, may};
 use acl_core::Cred;
 use arrayvec::ArrayVec;
-use label_core::{read_element, read_subject};
+use call_words::Rule;
+use label_core::Subject;
 use std::alloc::Global;
-use std::test::Fail;
 
 /// A caller's uid and label, the element, the list and the kind of a node of user 7, and what is wanted, in letters; and the rule
 /// that denies it. The uid 9 is neither the owner nor in the group.
@@ -33,10 +34,19 @@ may 9 mls/5:2 mls/10:2 user::rwx,group::---,other::--- file r -> LabelRead
 may 0 mls/5:2 mls/10:2 user::rwx,group::---,other::--- file r -> LabelRead
 ";
 
+/// Who asks.
+fn cred_of(uid: &str) -> Option<Cred> {
+    Some(Cred {
+        uid: uid.parse::<u32>().ok()?,
+        gid: 100,
+        groups: ArrayVec::new(),
+    })
+}
+
 /// A node of user 7 and group 7.
-fn node(element: &str, list: &str, kind: &str) -> Result<Attrs, Fail> {
-    Ok(Attrs {
-        element: read_element(element.as_bytes())?,
+fn node_of(element: &str, list: &str, kind: &str) -> Option<Attrs> {
+    Some(Attrs {
+        element: element_of(element)?,
         owner: 7,
         group: 7,
         list: list_of(list)?,
@@ -44,29 +54,29 @@ fn node(element: &str, list: &str, kind: &str) -> Result<Attrs, Fail> {
     })
 }
 
+/// Whether a caller may access a node as these letters say.
+fn decision(cred: &Cred, label: &Subject, node: &Attrs, letters: &str) -> Result<(), Rule> {
+    let read = letters.contains('r');
+    let write = letters.contains('w');
+    let exec = letters.contains('x');
+    may(cred, label, node, read, write, exec)
+}
+
+fn decision_of(words: &[&str]) -> Option<Result<(), Rule>> {
+    match words {
+        [uid, label, element, list, kind, letters] => {
+            let node = node_of(element, list, kind)?;
+            let cred = cred_of(uid)?;
+            Some(decision(&cred, &subject_of(label)?, &node, letters))
+        }
+        _ => None,
+    }
+}
+
 /// The rule that denies a caller the access to a node.
-pub fn told(alloc: Global, of: &str) -> Result<Vec<u8>, Fail> {
-    let (uid, of) = parted(of)?;
-    let (label, of) = parted(of)?;
-    let (element, of) = parted(of)?;
-    let (list, of) = parted(of)?;
-    let (kind, letters) = parted(of)?;
-    let cred = Cred {
-        uid: uid.parse::<u32>()?,
-        gid: 100,
-        groups: ArrayVec::new(),
-    };
-    let subject = read_subject(label.as_bytes())?;
-    let wants = |letter: char| letters.contains(letter);
-    match may(
-        &cred,
-        &subject,
-        &node(element, list, kind)?,
-        wants('r'),
-        wants('w'),
-        wants('x'),
-    ) {
-        Ok(()) => Ok(Vec::from_slice(alloc, b"granted")?),
-        Err(rule) => Ok(format!(in alloc; "{rule:?}")?.into_bytes()),
+pub fn told(alloc: Global, of: &str) -> Option<Vec<u8>> {
+    match decision_of(fields_of(of).as_slice())? {
+        Ok(()) => Vec::from_slice(alloc, b"granted").ok(),
+        Err(rule) => Some(format!(in alloc; "{rule:?}").ok()?.into_bytes()),
     }
 }

@@ -1,12 +1,12 @@
 //! Dominance, labels and their texts (mac_mls(4)), and where texts have their faults.
 
-use crate::rows::{parted, said};
+use crate::rows::{fields_of, said};
 use arrayvec::ArrayVec;
 use label_core::{
     COMPARTMENTS, CompSet, Element, Subject, dominates, laws, may_become, may_relabel,
     print_element, print_subject, read_element, read_subject,
 };
-use std::alloc::{AllocError, Global};
+use std::alloc::Global;
 use std::test::Fail;
 
 /// Texts, and what is printed of them or the kind and the place of their fault; which element dominates which; which elements a
@@ -148,97 +148,105 @@ becomes mls/10(5-equal) mls/equal -> yes
 ";
 
 /// What is printed of the element of a text, or its fault.
-fn element(alloc: Global, text: &str) -> Result<Vec<u8>, AllocError> {
+fn element(alloc: Global, text: &str) -> Option<Vec<u8>> {
     match read_element(text.as_bytes()) {
         Ok(element) => {
             let mut out = ArrayVec::new();
             print_element(&element, &mut out);
-            Vec::from_slice(alloc, out.as_slice())
+            Vec::from_slice(alloc, out.as_slice()).ok()
         }
-        Err(fault) => Ok(format!(in alloc; "{:?} {}", fault.kind, fault.at)?.into_bytes()),
+        Err(fault) => {
+            let text = format!(in alloc; "{:?} {}", fault.kind, fault.at).ok()?;
+            Some(text.into_bytes())
+        }
     }
 }
 
 /// What is printed of the subject of a text, or its fault.
-fn subject(alloc: Global, text: &str) -> Result<Vec<u8>, AllocError> {
+fn subject(alloc: Global, text: &str) -> Option<Vec<u8>> {
     match read_subject(text.as_bytes()) {
         Ok(subject) => {
             let mut out = ArrayVec::new();
             print_subject(&subject, &mut out);
-            Vec::from_slice(alloc, out.as_slice())
+            Vec::from_slice(alloc, out.as_slice()).ok()
         }
-        Err(fault) => Ok(format!(in alloc; "{:?} {}", fault.kind, fault.at)?.into_bytes()),
+        Err(fault) => {
+            let text = format!(in alloc; "{:?} {}", fault.kind, fault.at).ok()?;
+            Some(text.into_bytes())
+        }
     }
 }
 
-fn is_above(pair: &str) -> Result<bool, Fail> {
-    let (above, below) = parted(pair)?;
-    let above = read_element(above.as_bytes())?;
-    let below = read_element(below.as_bytes())?;
-    Ok(dominates(&above, &below))
+/// The element of a text.
+pub fn element_of(text: &str) -> Option<Element> {
+    read_element(text.as_bytes()).ok()
 }
 
-fn relabels(three: &str) -> Result<bool, Fail> {
-    let (subject, elements) = parted(three)?;
-    let (old, wanted) = parted(elements)?;
-    let subject = read_subject(subject.as_bytes())?;
-    let old = read_element(old.as_bytes())?;
-    let wanted = read_element(wanted.as_bytes())?;
-    Ok(may_relabel(&subject, &old, &wanted))
+/// The subject of a text.
+pub fn subject_of(text: &str) -> Option<Subject> {
+    read_subject(text.as_bytes()).ok()
 }
 
-fn becomes(pair: &str) -> Result<bool, Fail> {
-    let (from, to) = parted(pair)?;
-    let from = read_subject(from.as_bytes())?;
-    let to = read_subject(to.as_bytes())?;
-    Ok(may_become(&from, &to))
+fn is_above(above: &str, below: &str) -> Option<bool> {
+    Some(dominates(&element_of(above)?, &element_of(below)?))
+}
+
+fn relabels(subject: &str, old: &str, wanted: &str) -> Option<bool> {
+    let subject = subject_of(subject)?;
+    Some(may_relabel(&subject, &element_of(old)?, &element_of(wanted)?))
+}
+
+fn becomes(from: &str, to: &str) -> Option<bool> {
+    Some(may_become(&subject_of(from)?, &subject_of(to)?))
+}
+
+/// The answer to a question about elements and subjects.
+fn is_so(asked: &str, of: &[&str]) -> Option<bool> {
+    match of {
+        [subject, old, wanted] => relabels(subject, old, wanted),
+        [from, to] if asked == "becomes" => becomes(from, to),
+        [above, below] => is_above(above, below),
+        _ => None,
+    }
 }
 
 /// The answer to a question about labels.
-pub fn told(alloc: Global, asked: &str, of: &str) -> Result<Option<Vec<u8>>, Fail> {
-    if asked == "element" {
-        return Ok(Some(element(alloc, of)?));
+pub fn told(alloc: Global, asked: &str, of: &str) -> Option<Vec<u8>> {
+    match asked {
+        "element" => element(alloc, of),
+        "subject" => subject(alloc, of),
+        _ => said(alloc, is_so(asked, fields_of(of).as_slice())?),
     }
-    if asked == "subject" {
-        return Ok(Some(subject(alloc, of)?));
-    }
-    if asked == "dominates" {
-        return Ok(Some(said(alloc, is_above(of)?)?));
-    }
-    if asked == "relabels" {
-        return Ok(Some(said(alloc, relabels(of)?)?));
-    }
-    if asked == "becomes" {
-        return Ok(Some(said(alloc, becomes(of)?)?));
-    }
-    Ok(None)
 }
 
-/// All compartments.
-fn full_set() -> CompSet {
+/// All compartments, and a grade.
+fn graded(grade: u16) -> Element {
     let mut set = CompSet::empty();
     for n in 1..=COMPARTMENTS {
         set = set.with(n);
     }
-    set
+    Element::Grade { grade, set }
 }
 
+/// The longest text of an element has 925 bytes, and is read back.
 #[test]
-fn longest_texts(rt: HostRuntime) -> Result<(), Fail> {
-    let graded = |grade| Element::Grade {
-        grade,
-        set: full_set(),
-    };
-    let (active, low, high) = (graded(65534), graded(65533), graded(65535));
+fn longest_element(rt: HostRuntime) -> Result<(), Fail> {
+    let element = graded(65535);
     let mut out = ArrayVec::new();
-    print_element(&high, &mut out);
-    assert_eq!(rt; out.len(), 925);
-    assert_eq!(rt; read_element(out.as_slice())?, high);
-    let s = Subject::new(active, low, high).ok_or("the parts are a subject")?;
+    print_element(&element, &mut out);
+    let back = read_element(out.as_slice())?;
+    assert!(rt; out.len() == 925 && back == element);
+    Ok(())
+}
+
+/// The longest text of a subject has 2,770 bytes, and is read back.
+#[test]
+fn longest_subject(rt: HostRuntime) -> Result<(), Fail> {
+    let subject = Subject::new(graded(65534), graded(65533), graded(65535)).ok_or("no subject")?;
     let mut out = ArrayVec::new();
-    print_subject(&s, &mut out);
-    assert_eq!(rt; out.len(), 2770);
-    assert_eq!(rt; read_subject(out.as_slice())?, s);
+    print_subject(&subject, &mut out);
+    let back = read_subject(out.as_slice())?;
+    assert!(rt; out.len() == 2770 && back == subject);
     Ok(())
 }
 

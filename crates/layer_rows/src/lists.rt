@@ -1,13 +1,13 @@
 //! Access lists (POSIX.1e), what they grant, how they go with the nine bits of a mode, and their texts.
-ghost use Rattle.std.specs.Prelude.{◌<◌, IfOk};
+ghost use Rattle.std.specs.Prelude.{◌<◌, IfSome};
 
-use crate::rows::{parted, said};
+use crate::rows::{fields_of, said};
 use acl_core::{
     Acl, AclFault, Cred, Entry, ListFault, Perm, TEXT_ROOM, laws, print_entries, print_list,
     read_list,
 };
 use arrayvec::ArrayVec;
-use std::alloc::{AllocError, Global};
+use std::alloc::Global;
 use std::test::Fail;
 
 type Text = ArrayVec<u8, TEXT_ROOM>;
@@ -103,125 +103,117 @@ executes user::rw-,group::r--,mask::--x,other::--- -> yes
 ";
 
 /// The list of a text.
-pub fn list_of(text: &str) -> Result<Acl, Fail> {
-    let entries = read_list(text.as_bytes())?;
-    Ok(Acl::new(&entries)?)
+pub fn list_of(text: &str) -> Option<Acl> {
+    Acl::new(&read_list(text.as_bytes()).ok()?).ok()
 }
 
-/// A credential, with its groups joined by `+`, or `-` for none.
-fn cred_of(uid: &str, gid: &str, groups: &str) -> Result<Cred, Fail> {
-    let mut held = ArrayVec::new();
-    if groups != "-" {
-        for group in groups.split('+') {
-            held.try_push(group.parse::<u32>()?)?;
+/// Groups joined by `+`, or `-` for none.
+fn groups_of(text: &str) -> ArrayVec<u32, 16> {
+    let mut groups = ArrayVec::new();
+    for word in text.split('+') {
+        if let Ok(group) = word.parse::<u32>() {
+            let _ = groups.try_push(group);
         }
     }
-    Ok(Cred {
-        uid: uid.parse::<u32>()?,
-        gid: gid.parse::<u32>()?,
-        groups: held,
+    groups
+}
+
+fn cred_of(uid: &str, gid: &str, groups: &str) -> Option<Cred> {
+    Some(Cred {
+        uid: uid.parse::<u32>().ok()?,
+        gid: gid.parse::<u32>().ok()?,
+        groups: groups_of(groups),
     })
 }
 
-fn printed(alloc: Global, acl: &Acl) -> Result<Vec<u8>, AllocError> {
+fn printed(alloc: Global, acl: &Acl) -> Option<Vec<u8>> {
     let mut text = Text::new();
     print_list(acl, &mut text);
-    Vec::from_slice(alloc, text.as_slice())
+    Vec::from_slice(alloc, text.as_slice()).ok()
+}
+
+/// What is printed of the list of these entries, or their fault.
+fn list_or_fault(alloc: Global, entries: &[Entry]) -> Option<Vec<u8>> {
+    match Acl::new(entries) {
+        Ok(acl) => printed(alloc, &acl),
+        Err(fault) => Some(format!(in alloc; "{fault:?}").ok()?.into_bytes()),
+    }
 }
 
 /// What is printed of the list of a text, or its fault.
-fn list(alloc: Global, text: &str) -> Result<Vec<u8>, AllocError> {
+fn list(alloc: Global, text: &str) -> Option<Vec<u8>> {
     match read_list(text.as_bytes()) {
-        Ok(entries) => match Acl::new(&entries) {
-            Ok(acl) => printed(alloc, &acl),
-            Err(fault) => Ok(format!(in alloc; "{fault:?}")?.into_bytes()),
-        },
-        Err(fault) => Ok(format!(in alloc; "at {}", fault.at)?.into_bytes()),
+        Ok(entries) => list_or_fault(alloc, &entries),
+        Err(fault) => Some(format!(in alloc; "at {}", fault.at).ok()?.into_bytes()),
     }
 }
 
 /// What is printed of the entries of a text as they are.
-fn entries(alloc: Global, text: &str) -> Result<Vec<u8>, Fail> {
+fn entries(alloc: Global, text: &str) -> Option<Vec<u8>> {
     let mut out = Text::new();
-    print_entries(&read_list(text.as_bytes())?, &mut out);
-    Ok(Vec::from_slice(alloc, out.as_slice())?)
+    print_entries(&read_list(text.as_bytes()).ok()?, &mut out);
+    Vec::from_slice(alloc, out.as_slice()).ok()
 }
 
-fn grants(of: &str) -> Result<bool, Fail> {
-    let (list, who) = parted(of)?;
-    let (uid, groups) = parted(who)?;
-    let (gid, groups) = parted(groups)?;
-    let (groups, digit) = parted(groups)?;
-    let cred = cred_of(uid, gid, groups)?;
-    let digit = digit.parse::<u16>()?.min(7);
-    Ok(list_of(list)?.check(&cred, OWNER, GROUP, Perm::from_digit(digit)))
+fn grants(list: &str, cred: &Cred, digit: &str) -> Option<bool> {
+    let wanted = Perm::from_digit(digit.parse::<u16>().ok()?.min(7));
+    Some(list_of(list)?.check(cred, OWNER, GROUP, wanted))
 }
 
-fn mode_of(text: &str) -> Result<u16, Fail>
-    ensures { IfOk result (λ mode. mode < 512) }
+fn mode_of(text: &str) -> Option<u16>
+    ensures { IfSome result (λ mode. mode < 512) }
 {
-    Ok(u16::from_str_radix(text, 8)?.min(0o777))
+    Some(u16::from_str_radix(text, 8).ok()?.min(0o777))
+}
+
+fn mode_text(alloc: Global, mode: u16) -> Option<Vec<u8>> {
+    Some(format!(in alloc; "{mode:o}").ok()?.into_bytes())
+}
+
+/// The answer to a question about the words of a list and a caller, or of a mode and a list.
+fn told_of_words(alloc: Global, asked: &str, of: &[&str]) -> Option<Vec<u8>> {
+    match of {
+        [list, uid, gid, groups, digit] => {
+            let cred = cred_of(uid, gid, groups)?;
+            said(alloc, grants(list, &cred, digit)?)
+        }
+        [mode, list] if asked == "with" => {
+            printed(alloc, &list_of(list)?.with_mode(mode_of(mode)?))
+        }
+        [mode, list] => printed(alloc, &list_of(list)?.inherit(mode_of(mode)?)),
+        _ => None,
+    }
 }
 
 /// The answer to a question about lists.
-pub fn told(alloc: Global, asked: &str, of: &str) -> Result<Option<Vec<u8>>, Fail> {
-    if asked == "list" {
-        return Ok(Some(list(alloc, of)?));
+pub fn told(alloc: Global, asked: &str, of: &str) -> Option<Vec<u8>> {
+    match asked {
+        "list" => list(alloc, of),
+        "entries" => entries(alloc, of),
+        "minimal" => printed(alloc, &Acl::minimal(mode_of(of)?)),
+        "executes" => said(alloc, list_of(of)?.has_x()),
+        "mode" => mode_text(alloc, list_of(of)?.mode_of()),
+        _ => told_of_words(alloc, asked, fields_of(of).as_slice()),
     }
-    if asked == "entries" {
-        return Ok(Some(entries(alloc, of)?));
-    }
-    if asked == "grants" {
-        return Ok(Some(said(alloc, grants(of)?)?));
-    }
-    if asked == "minimal" {
-        return Ok(Some(printed(alloc, &Acl::minimal(mode_of(of)?))?));
-    }
-    if asked == "executes" {
-        return Ok(Some(said(alloc, list_of(of)?.has_x())?));
-    }
-    told_of_mode(alloc, asked, of)
 }
 
-/// A mode, and the list of a text behind it.
-fn mode_and_list(of: &str) -> Result<(u16, Acl), Fail>
-    ensures { IfOk result (λ pair. pair.0 < 512) }
-{
-    let (mode, list) = parted(of)?;
-    Ok((mode_of(mode)?, list_of(list)?))
-}
-
-/// The answer to a question about a list and a mode.
-fn told_of_mode(alloc: Global, asked: &str, of: &str) -> Result<Option<Vec<u8>>, Fail> {
-    if asked == "mode" {
-        let mode = list_of(of)?.mode_of();
-        return Ok(Some(format!(in alloc; "{mode:o}")?.into_bytes()));
-    }
-    if asked == "with" {
-        let (mode, acl) = mode_and_list(of)?;
-        return Ok(Some(printed(alloc, &acl.with_mode(mode))?));
-    }
-    if asked == "inherit" {
-        let (mode, acl) = mode_and_list(of)?;
-        return Ok(Some(printed(alloc, &acl.inherit(mode))?));
-    }
-    Ok(None)
-}
-
-/// A list has at most 64 entries, and so has a text.
+/// A list has at most 64 entries.
 #[test]
-fn a_list_has_at_most_64_entries(rt: HostRuntime) -> Result<(), Fail> {
+fn a_list_has_at_most_64_entries(rt: HostRuntime) {
     let many = [Entry::default(); 65];
-    let faults = [Acl::new(&many).err(), Acl::new(&many[..64]).err()];
-    assert_eq!(rt; faults, [Some(AclFault::TooMany), Some(AclFault::Twice)]);
-    let most = "other::---,".repeat(rt.alloc(), 63)?;
-    let text = format!(in rt.alloc(); "{most}other::---")?;
-    let over = format!(in rt.alloc(); "{text},other::---")?;
-    let faults = [
-        read_list(text.as_bytes()).err(),
-        read_list(over.as_bytes()).err(),
-    ];
-    assert_eq!(rt; faults, [None, Some(ListFault { at: 703 })]);
+    let over = Acl::new(&many).err();
+    let most = Acl::new(&many[..64]).err();
+    assert!(rt; over == Some(AclFault::TooMany) && most == Some(AclFault::Twice));
+}
+
+/// A text has at most 64 entries; a 65th is a fault at the comma before it.
+#[test]
+fn a_text_has_at_most_64_entries(rt: HostRuntime) -> Result<(), Fail> {
+    let mut text = "other::---,".repeat(rt.alloc(), 64)?;
+    text.push_str("other::---")?;
+    let most = read_list(&text.as_bytes()[11..]).err();
+    let over = read_list(text.as_bytes()).err();
+    assert!(rt; most.is_none() && over == Some(ListFault { at: 703 }));
     Ok(())
 }
 

@@ -2,7 +2,6 @@
 
 use sh_text::{Command, Line, NoMemory, ShFault, Word, laws, read_line};
 use std::alloc::Global;
-use std::test::Fail;
 
 /// Lines, and their trees as `shown` writes them, or the place of their fault.
 pub const ROWS: &str = "
@@ -82,12 +81,12 @@ fn shown(alloc: Global, line: &Line) -> Result<Vec<u8>, NoMemory> {
 }
 
 /// A line's tree, or the place of its fault.
-pub fn told(alloc: Global, text: &str) -> Result<Vec<u8>, Fail> {
+pub fn told(alloc: Global, text: &str) -> Option<Vec<u8>> {
     match read_line(alloc, text.as_bytes()) {
-        Ok(line) if line.jobs.as_slice().is_empty() => Ok(Vec::from_slice(alloc, b"nothing")?),
-        Ok(line) => Ok(shown(alloc, &line)?),
-        Err(ShFault::Text { at }) => Ok(format!(in alloc; "at {at}")?.into_bytes()),
-        Err(ShFault::NoMemory) => Err("no memory".into()),
+        Ok(line) if line.jobs.as_slice().is_empty() => Vec::from_slice(alloc, b"nothing").ok(),
+        Ok(line) => shown(alloc, &line).ok(),
+        Err(ShFault::Text { at }) => Some(format!(in alloc; "at {at}").ok()?.into_bytes()),
+        Err(ShFault::NoMemory) => None,
     }
 }
 

@@ -1,7 +1,7 @@
 //! The texts of terminal settings (termios(4)).
 
 use arrayvec::ArrayVec;
-use std::alloc::{AllocError, Global};
+use std::alloc::Global;
 use termios_core::{LINE_ROOM, laws, print_termios, read_termios};
 
 /// Texts, and what is printed of the settings that they spell, if any.
@@ -51,14 +51,14 @@ termios -:0+0+0+0+0+0+0+0+0+0+0: -> none
 ";
 
 /// What is printed of the settings of a text.
-pub fn told(alloc: Global, text: &str) -> Result<Vec<u8>, AllocError> {
+pub fn told(alloc: Global, text: &str) -> Option<Vec<u8>> {
     match read_termios(text.as_bytes()) {
         Some(termios) => {
             let mut out: ArrayVec<u8, LINE_ROOM> = ArrayVec::new();
             print_termios(&termios, &mut out);
-            Vec::from_slice(alloc, out.as_slice())
+            Vec::from_slice(alloc, out.as_slice()).ok()
         }
-        None => Vec::from_slice(alloc, b"none"),
+        None => Vec::from_slice(alloc, b"none").ok(),
     }
 }
 

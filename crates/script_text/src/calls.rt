@@ -9,7 +9,7 @@ use crate::rights::{read_groups, read_id, read_which};
 use crate::values::{
     DEFAULT_MODE, read_access, read_fd, read_flags, read_from, read_max, read_mode,
 };
-use crate::words::{Words, all_three, both, only};
+use crate::words::{Words, all_three, both, is_word, only};
 use acl_core::Cred;
 use call_words::{Call, Entries, OpenFlags};
 use label_core::{read_element, read_subject};
@@ -235,13 +235,13 @@ fn read_caller_call(name: &[u8], words: &mut Words) -> Option<Call>
     ensures call { result ≡ caller_call_of name.now words.old }
     ensures fit { IfSome result HasFitMode }
 {
-    if name == b"setproclabel".as_slice() {
+    if is_word(name, b"setproclabel") {
         read_setproclabel(words)
-    } else if name == b"ident".as_slice() {
+    } else if is_word(name, b"ident") {
         read_ident(words)
-    } else if name == b"setcred".as_slice() {
+    } else if is_word(name, b"setcred") {
         read_setcred(words)
-    } else if name == b"umask".as_slice() {
+    } else if is_word(name, b"umask") {
         read_umask(words)
     } else {
         None
@@ -255,17 +255,17 @@ fn read_rights_call(name: &[u8], words: &mut Words) -> Option<Call>
     ensures call { result ≡ rights_call_of name.now words.old }
     ensures fit { IfSome result HasFitMode }
 {
-    if name == b"chmod".as_slice() {
+    if is_word(name, b"chmod") {
         read_chmod(words)
-    } else if name == b"chown".as_slice() {
+    } else if is_word(name, b"chown") {
         read_chown(words)
-    } else if name == b"setacl".as_slice() {
+    } else if is_word(name, b"setacl") {
         read_setacl(words)
-    } else if name == b"getacl".as_slice() {
+    } else if is_word(name, b"getacl") {
         read_getacl(words)
-    } else if name == b"setlabel".as_slice() {
+    } else if is_word(name, b"setlabel") {
         read_setlabel(words)
-    } else if name == b"getlabel".as_slice() {
+    } else if is_word(name, b"getlabel") {
         read_getlabel(words)
     } else {
         read_caller_call(name, words)
@@ -278,19 +278,19 @@ fn read_path_call(name: &[u8], words: &mut Words) -> Option<Call>
     ensures call { result ≡ path_call_of name.now words.old }
     ensures fit { IfSome result HasFitMode }
 {
-    if name == b"chdir".as_slice() {
+    if is_word(name, b"chdir") {
         read_chdir(words)
-    } else if name == b"mkdir".as_slice() {
+    } else if is_word(name, b"mkdir") {
         read_mkdir(words)
-    } else if name == b"rmdir".as_slice() {
+    } else if is_word(name, b"rmdir") {
         read_rmdir(words)
-    } else if name == b"unlink".as_slice() {
+    } else if is_word(name, b"unlink") {
         read_unlink(words)
-    } else if name == b"list".as_slice() {
+    } else if is_word(name, b"list") {
         read_list(words)
-    } else if name == b"info".as_slice() {
+    } else if is_word(name, b"info") {
         read_info(words)
-    } else if name == b"revoke".as_slice() {
+    } else if is_word(name, b"revoke") {
         read_revoke(words)
     } else {
         read_rights_call(name, words)
@@ -304,13 +304,13 @@ pub fn read_call(words: &mut Words) -> Option<Call>
     ensures fit { IfSome result HasFitMode }
 {
     let name = words.next()?;
-    if name == b"open".as_slice() {
+    if is_word(name, b"open") {
         read_open(words)
-    } else if name == b"close".as_slice() {
+    } else if is_word(name, b"close") {
         read_close(words)
-    } else if name == b"read".as_slice() {
+    } else if is_word(name, b"read") {
         read_read(words)
-    } else if name == b"write".as_slice() {
+    } else if is_word(name, b"write") {
         read_write(words)
     } else {
         read_path_call(name, words)

@@ -8,6 +8,7 @@ ghost use Rattle.call_words.specs.declared.text.TheConstants.{PIECE_BYTES};
 ghost use Rattle.hex.specs.Hex.{decode_of};
 ghost use Rattle.script_text.specs.Words.{is_digit, is_number, number_below, bytes_of_word};
 
+use crate::words::is_word;
 use call_words::{PIECE_BYTES, Piece};
 use std::str;
 
@@ -94,7 +95,7 @@ fn read_pairs(digits: &[u8], room: &mut [u8]) -> Option<Piece>
 pub fn read_bytes(word: &[u8]) -> Option<Piece>
     ensures { result ≡ bytes_of_word word.now }
 {
-    if word == b"-".as_slice() {
+    if is_word(word, b"-") {
         return Some(Piece::empty());
     }
     if word.is_empty() || word.len() > 2 * PIECE_BYTES {

@@ -2,6 +2,7 @@
 ghost use Rattle.std.specs.Prelude.{◌≡◌, ℕ, ◌<◌, List, [], ◌∷◌, length, MatchOption, IfSome, None};
 ghost use Rattle.script_text.specs.Paths.{is_plain, escape_value, then_bytes, unescaped, if_short, path_of};
 
+use crate::words::is_word;
 use arrayvec::ArrayVec;
 use call_words::{PATH_BYTES, PathText};
 
@@ -62,7 +63,7 @@ fn read_escaped(text: &[u8]) -> Option<PathText>
 pub fn read_path(word: &[u8]) -> Option<PathText>
     ensures { result ≡ path_of word.now }
 {
-    if word == b"%".as_slice() {
+    if is_word(word, b"%") {
         return Some(PathText::empty());
     }
     if word.is_empty() {

@@ -4,7 +4,7 @@ ghost use Rattle.script_text.specs.Rights.{id_of, if_few, ids_of, groups_of, whi
 ghost use Rattle.script_text.specs.Words.{parted};
 
 use crate::numbers::read_u32;
-use crate::words::Words;
+use crate::words::{Words, is_word};
 use acl_core::MOST_GROUPS;
 use arrayvec::ArrayVec;
 use call_words::WhichList;
@@ -39,7 +39,7 @@ fn read_ids(word: &[u8]) -> Option<ArrayVec<u32, MOST_GROUPS>>
 pub fn read_groups(word: &[u8]) -> Option<ArrayVec<u32, MOST_GROUPS>>
     ensures { option_map (λ groups. groups.items) result ≡ groups_of word.now }
 {
-    if word == b"-".as_slice() {
+    if is_word(word, b"-") {
         return Some(ArrayVec::new());
     }
     read_ids(word)
@@ -49,9 +49,9 @@ pub fn read_groups(word: &[u8]) -> Option<ArrayVec<u32, MOST_GROUPS>>
 pub fn read_which(word: &[u8]) -> Option<WhichList>
     ensures { result ≡ which_of word.now }
 {
-    if word == b"access".as_slice() {
+    if is_word(word, b"access") {
         Some(WhichList::Access)
-    } else if word == b"default".as_slice() {
+    } else if is_word(word, b"default") {
         Some(WhichList::Default)
     } else {
         None

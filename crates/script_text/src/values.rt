@@ -8,6 +8,7 @@ ghost use Rattle.script_text.specs.Words.{number_below};
 ghost use Rattle.script_text.specs.Values.{slot_of, line_of, fd_of, max_of, taken_of, from_of, mode_of, access_of, flag_letters, is_flag_letter, times, are_flags, flags_in, flags_of};
 
 use crate::numbers::{DECIMAL, OCTAL, read_number};
+use crate::words::is_word;
 use acl_core::MODE_MOST;
 use call_words::{Access, LINES, OpenFlags, PIECE_BYTES, SLOTS};
 
@@ -132,7 +133,7 @@ fn flags_in(word: &[u8]) -> OpenFlags
 pub fn read_flags(word: &[u8]) -> Option<OpenFlags>
     ensures { result ≡ flags_of word.now }
 {
-    if word == b"-".as_slice() {
+    if is_word(word, b"-") {
         return Some(OpenFlags::default());
     }
     if word.is_empty() || !are_flag_letters(word) || !stand_once(b"cxtane", word) {

@@ -1,5 +1,5 @@
 //! The words of a line, and the parts of a word.
-ghost use Rattle.std.specs.Prelude.{◌≡◌, ◌==◌, ℕ, ◌+◌, ◌-◌, List, [], ◌∷◌, length, option_copied, option_map, position, MatchOption};
+ghost use Rattle.std.specs.Prelude.{◌≡◌, ◌==◌, bytes_eq, ℕ, ◌+◌, ◌-◌, List, [], ◌∷◌, length, option_copied, option_map, position, MatchOption};
 ghost use Rattle.script_text.specs.Words.{words as words_of, parted};
 ghost use Rattle.script_text.specs.Left.{parts_after, only_word, both_words, three_words};
 
@@ -98,4 +98,11 @@ pub fn all_three<'a>(words: &mut Words<'a>) -> Option<(&'a [u8], &'a [u8], &'a [
     let first = words.next()?;
     let (second, third) = both(words)?;
     Some((first, second, third))
+}
+
+/// Whether a word is this one.
+pub fn is_word(word: &[u8], this: &[u8]) -> bool
+    ensures { result ≡ bytes_eq word.now this.now }
+{
+    word == this
 }

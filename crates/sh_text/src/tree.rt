@@ -6,7 +6,7 @@ use std::alloc::Global;
 use std::marker::Model;
 
 /// A word without its quotes, seen as its bytes.
-#[derive(Debug, Drop)]
+#[derive(Drop)]
 pub struct Word {
     bytes: Vec<u8>,
 }
@@ -46,7 +46,7 @@ impl Word {
 }
 
 /// The words of a command, seen as their list.
-#[derive(Debug, Drop)]
+#[derive(Drop)]
 pub struct Words {
     items: Vec<Word>,
 }
@@ -95,7 +95,7 @@ impl Words {
 
 /// A command: its words, of which there is at least one, and where its input comes from and its
 /// output goes to.
-#[derive(Debug, Drop)]
+#[derive(Drop)]
 pub struct Command {
     pub words: Words,
     /// The word behind `<`.
@@ -107,7 +107,7 @@ pub struct Command {
 }
 
 /// The commands of a job, from 1 to 8, seen as their list.
-#[derive(Debug, Drop)]
+#[derive(Drop)]
 pub struct Commands {
     items: Vec<Command>,
 }
@@ -148,7 +148,7 @@ impl Commands {
 }
 
 /// A job: commands of which each one's output is the next one's input.
-#[derive(Debug, Drop)]
+#[derive(Drop)]
 pub struct Job {
     pub commands: Commands,
     /// Whether the shell does not wait for it.
@@ -156,7 +156,7 @@ pub struct Job {
 }
 
 /// The jobs of a line, seen as their list.
-#[derive(Debug, Drop)]
+#[derive(Drop)]
 pub struct Jobs {
     items: Vec<Job>,
 }
@@ -197,7 +197,7 @@ impl Jobs {
 }
 
 /// A line: its jobs in order, and none where the line is blank.
-#[derive(Debug, Drop)]
+#[derive(Drop)]
 pub struct Line {
     pub jobs: Jobs,
 }

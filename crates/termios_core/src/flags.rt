@@ -4,7 +4,7 @@ ghost use Rattle.termios_core.specs.Flags.{word, is_on, flags_of, with_flag};
 ghost use Rattle.termios_core.specs.Reading.{flag_of};
 
 /// A flag of a terminal by its name in termios(4). `Flags` says what each does.
-#[derive(Clone, Copy, Debug, PartialEq, Eq)]
+#[derive(Clone, Copy, PartialEq, Eq)]
 pub enum Flag {
     Istrip,
     Inlcr,
@@ -28,7 +28,7 @@ pub enum Flag {
 }
 
 /// The flags of a terminal (termios(4)).
-#[derive(Clone, Copy, Debug, PartialEq, Eq)]
+#[derive(Clone, Copy, PartialEq, Eq)]
 pub struct Flags {
     /// Input bytes are cut to seven bits.
     pub istrip: bool,

@@ -17,7 +17,7 @@ const DELETE: u8 = 127;
 const CONTROL: u8 = 64;
 
 /// The settings of a terminal line (termios(4)).
-#[derive(Clone, Copy, Debug, PartialEq, Eq)]
+#[derive(Clone, Copy, PartialEq, Eq)]
 pub struct Termios {
     pub flags: Flags,
     /// Sends INT.

@@ -6,7 +6,7 @@ use crate::machine::{Machine, NoMemory};
 use std::marker::Model;
 
 /// What a tally is asked.
-#[derive(Clone, Copy, Debug, PartialEq, Eq)]
+#[derive(Clone, Copy, PartialEq, Eq)]
 pub enum TallyEvent {
     /// Adds a number, modulo 2^32.
     Add(u8),
@@ -15,7 +15,7 @@ pub enum TallyEvent {
 }
 
 /// What a tally answers.
-#[derive(Clone, Copy, Debug, PartialEq, Eq)]
+#[derive(Clone, Copy, PartialEq, Eq)]
 pub enum TallyDecision {
     /// The sum after the event.
     Sum(u32),
@@ -24,7 +24,7 @@ pub enum TallyDecision {
 }
 
 /// A sum, which contracts see as a number.
-#[derive(Clone, Copy, Debug, Default, PartialEq, Eq)]
+#[derive(Clone, Copy, Default, PartialEq, Eq)]
 pub struct Tally {
     sum: u32,
 }

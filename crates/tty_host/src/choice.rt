@@ -4,7 +4,7 @@ ghost use Rattle.std.specs.String.{string_bytes};
 ghost use Rattle.tty_host.specs.Tops.{choice_of};
 
 /// A command. Later commands join it.
-#[derive(Clone, Copy, Debug, PartialEq, Eq)]
+#[derive(Clone, Copy, PartialEq, Eq)]
 pub enum Choice {
     /// `script` or `script BOOT`: the index of BOOT among the words, if it is named.
     Script { boot: Option<usize> },

@@ -11,7 +11,7 @@ use std::alloc::Global;
 pub const TTYS: usize = 8;
 
 /// What a machine is told before its first event.
-#[derive(Debug, Drop)]
+#[derive(Drop)]
 pub struct Boot {
     /// Whether each read and write of a file or a line checks the labels anew, and not the open
     /// alone.
@@ -37,7 +37,7 @@ impl Boot {
 }
 
 /// What the lines of a boot text say so far.
-#[derive(Debug, Drop)]
+#[derive(Drop)]
 pub(crate) struct Draft {
     /// What the line of recheck says, where there is one.
     pub(crate) recheck: Option<bool>,

@@ -9,7 +9,7 @@ use std::marker::Model;
 pub const NAME_BYTES: usize = 32;
 
 /// The name of a user: 1 to 32 bytes in place, seen as their list.
-#[derive(Debug, Drop)]
+#[derive(Drop)]
 pub struct Name {
     bytes: ArrayVec<u8, NAME_BYTES>,
 }

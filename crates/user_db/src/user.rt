@@ -16,7 +16,7 @@ pub const SALT_BYTES: usize = 16;
 pub const DIGEST_BYTES: usize = 32;
 
 /// A user, as boot texts and the file of users have one.
-#[derive(Debug, Drop)]
+#[derive(Drop)]
 pub struct User {
     pub name: Name,
     /// What the user's processes are: uid, gid and supplementary groups.
@@ -47,7 +47,7 @@ impl User {
 }
 
 /// The users of a machine in order, seen as their list.
-#[derive(Debug, Drop)]
+#[derive(Drop)]
 pub struct Users {
     items: Vec<User>,
 }

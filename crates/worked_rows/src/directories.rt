@@ -1,10 +1,9 @@
 //! chdir(2), mkdir(2), rmdir(2), unlink(2), readdir(3) and stat(2), where of two rules that hold at once the first is named.
 
-use crate::session::check;
-use std::test::Fail;
-
-/// Nodes of the superuser with the mode 755, some of a grade. `/tmp/f` and `/tmp/low` stay open. Then a user of grade 10 asks.
-const MADE: &str = "
+/// Scenes, in the form of the module scenes.
+pub const SCENES: &str = "
+== each call on directories is denied by its first rule
+# Nodes of the superuser with the mode 755, some of a grade. `/tmp/f` and `/tmp/low` stay open. Then a user of grade 10 asks.
 0 mkdir /tmp/closed 700 -> 0 ok 0
 0 mkdir /tmp/secret 700 -> 0 ok 0
 0 mkdir /tmp/shut 777 -> 0 ok 0
@@ -30,10 +29,7 @@ const MADE: &str = "
 0 setlabel /tmp/d mls/5 -> 0 ok 0
 0 setproclabel mls/10(low-high) -> 0 ok 0
 0 setcred 1001 100 - -> 0 ok 0
-";
-
-/// Of the lines with a remark a later rule would hold too.
-const CALLS: &str = "
+# Of the lines with a remark a later rule would hold too.
 0 chdir /tmp/x -> 0 err ENOENT no-entry
 # The label of a file above would deny it too.
 0 chdir /tmp/high -> 0 err ENOTDIR not-dir
@@ -80,10 +76,7 @@ const CALLS: &str = "
 0 chdir .. -> 0 ok 0
 0 rmdir empty -> 0 ok 0
 0 info empty -> 0 err ENOENT no-entry
-";
-
-/// A new directory is its maker's until it goes.
-const OWN: &str = "
+# A new directory is its maker's until it goes.
 0 mkdir /tmp/x 777 -> 0 ok 0
 0 info /tmp/x -> 0 text dir:1001:0:755:0
 0 getlabel /tmp/x -> 0 text mls/10
@@ -91,15 +84,9 @@ const OWN: &str = "
 0 list /tmp/x 65535 -> 0 text -
 0 rmdir /tmp/x -> 0 ok 0
 0 info /tmp/x -> 0 err ENOENT no-entry
-";
 
-#[test]
-fn each_call_on_directories_is_denied_by_its_first_rule(rt: HostRuntime) -> Result<(), Fail> {
-    check(&rt, rt.alloc(), "", &[MADE, CALLS, OWN])
-}
-
-/// Names come in the order of their bytes, from a number on.
-const NAMES: &str = "
+== names are listed in their order
+# Names come in the order of their bytes, from a number on.
 0 mkdir /tmp/b 700 -> 0 ok 0
 0 mkdir /tmp/ab 700 -> 0 ok 0
 0 mkdir /tmp/a 700 -> 0 ok 0
@@ -109,8 +96,3 @@ const NAMES: &str = "
 0 list /tmp 3 -> 0 text -
 0 list /tmp 65535 -> 0 text -
 ";
-
-#[test]
-fn names_are_listed_in_their_order(rt: HostRuntime) -> Result<(), Fail> {
-    check(&rt, rt.alloc(), "", &[NAMES])
-}

@@ -21,10 +21,12 @@ mod rights;
 #[cfg(test)]
 mod runs;
 #[cfg(test)]
+mod scenes;
+#[cfg(test)]
 mod session;
 #[cfg(test)]
 mod sessions;
 #[cfg(test)]
 mod standard;
 #[cfg(test)]
-mod words;
+mod texts;

@@ -1,10 +1,9 @@
 //! How many names a listing holds: as many whole ones as fit 4,096 bytes (readdir(3)).
 
-use crate::session::check;
-use std::test::Fail;
-
-/// Sixteen names and 15 slashes fit: 16 * 255 + 15 is 4,095.
-const SIXTEEN: &str = "
+/// Scenes, in the form of the module scenes.
+pub const SCENES: &str = "
+== sixteen names fit
+# Sixteen names and 15 slashes fit: 16 * 255 + 15 is 4,095.
 0 mkdir /tmp/a~.*254~ 700 -> 0 ok 0
 0 mkdir /tmp/b~.*254~ 700 -> 0 ok 0
 0 mkdir /tmp/c~.*254~ 700 -> 0 ok 0
@@ -24,10 +23,9 @@ const SIXTEEN: &str = "
 0 mkdir /tmp/q~.*254~ 700 -> 0 ok 0
 0 mkdir /tmp/r~.*254~ 700 -> 0 ok 0
 0 list /tmp 0 -> 0 text a~.*254~/b~.*254~/c~.*254~/d~.*254~/e~.*254~/f~.*254~/g~.*254~/h~.*254~/i~.*254~/j~.*254~/k~.*254~/l~.*254~/m~.*254~/n~.*254~/o~.*254~/p~.*254~
-";
 
-/// Seventeen names and 16 slashes fill the text: 15 * 255 + 100 + 155 + 16 is 4,096.
-const SEVENTEEN: &str = "
+== seventeen names fill the text
+# Seventeen names and 16 slashes fill the text: 15 * 255 + 100 + 155 + 16 is 4,096.
 0 mkdir /tmp/a~.*254~ 700 -> 0 ok 0
 0 mkdir /tmp/b~.*254~ 700 -> 0 ok 0
 0 mkdir /tmp/c~.*254~ 700 -> 0 ok 0
@@ -47,10 +45,9 @@ const SEVENTEEN: &str = "
 0 mkdir /tmp/q~.*154~ 700 -> 0 ok 0
 0 mkdir /tmp/r 700 -> 0 ok 0
 0 list /tmp 0 -> 0 text a~.*254~/b~.*254~/c~.*254~/d~.*254~/e~.*254~/f~.*254~/g~.*254~/h~.*254~/i~.*254~/j~.*254~/k~.*254~/l~.*254~/m~.*254~/n~.*254~/o~.*254~/p~.*99~/q~.*154~
-";
 
-/// The last name would fit, but stands behind one that does not: 15 * 255 + 200 + 15 is 4,040.
-const ONE_BEHIND: &str = "
+== a listing ends at the first name that does not fit
+# The last name would fit, but stands behind one that does not: 15 * 255 + 200 + 15 is 4,040.
 0 mkdir /tmp/a~.*254~ 700 -> 0 ok 0
 0 mkdir /tmp/b~.*254~ 700 -> 0 ok 0
 0 mkdir /tmp/c~.*254~ 700 -> 0 ok 0
@@ -71,11 +68,3 @@ const ONE_BEHIND: &str = "
 0 mkdir /tmp/r 700 -> 0 ok 0
 0 list /tmp 0 -> 0 text a~.*254~/b~.*254~/c~.*254~/d~.*254~/e~.*254~/f~.*254~/g~.*254~/h~.*254~/i~.*254~/j~.*254~/k~.*254~/l~.*254~/m~.*254~/n~.*254~/o~.*254~/p~.*199~
 ";
-
-#[test]
-fn a_listing_holds_the_names_that_fit(rt: HostRuntime) -> Result<(), Fail> {
-    for rows in [SIXTEEN, SEVENTEEN, ONE_BEHIND] {
-        check(&rt, rt.alloc(), "", &[rows])?;
-    }
-    Ok(())
-}

@@ -1,10 +1,9 @@
 //! open(2), where of two rules that hold at once the first is named.
 
-use crate::session::check;
-use std::test::Fail;
-
-/// Nodes of the superuser, some of a grade or of one with a compartment that grade 10 does not have. Then a user of grade 10 asks.
-const MADE: &str = "
+/// Scenes, in the form of the module scenes.
+pub const SCENES: &str = "
+== each open is denied by its first rule
+# Nodes of the superuser, some of a grade or of one with a compartment that grade 10 does not have. Then a user of grade 10 asks.
 0 umask 0 -> 0 ok 18
 0 mkdir /tmp/closed 700 -> 0 ok 0
 0 mkdir /tmp/secret 700 -> 0 ok 0
@@ -21,20 +20,14 @@ const MADE: &str = "
 0 chmod /dev/tty2 666 -> 0 ok 0
 0 chmod /dev/tty7 666 -> 0 ok 0
 0 umask 22 -> 0 ok 0
-";
-
-/// Lines and the line of the caller, by the superuser, whom no list denies them.
-const OF_SUPERUSER: &str = "
+# Lines and the line of the caller, by the superuser, whom no list denies them.
 0 open /dev/tty r -> 0 err ENXIO no-tty
 0 open /dev/tty0 rw -> 0 err EAGAIN not-ready
 0 open /dev/tty6 r n -> 0 err EAGAIN not-ready
 0 chmod /dev/tty 600 -> 0 ok 0
 0 setproclabel mls/10(low-high) -> 0 ok 0
 0 setcred 1001 100 - -> 0 ok 0
-";
-
-/// Of the lines with a remark a later rule would hold too.
-const OPENS: &str = "
+# Of the lines with a remark a later rule would hold too.
 0 open /tmp/f r t -> 0 err EINVAL flags
 0 open /tmp/f r a -> 0 err EINVAL flags
 # The path.
@@ -73,24 +66,17 @@ const OPENS: &str = "
 0 open /tmp/x w cxta 666 -> 0 ok 8
 0 info /tmp/x -> 0 text file:1001:0:644:0
 0 getlabel /tmp/x -> 0 text mls/10
-";
 
-#[test]
-fn each_open_is_denied_by_its_first_rule(rt: HostRuntime) -> Result<(), Fail> {
-    check(&rt, rt.alloc(), "", &[MADE, OF_SUPERUSER, OPENS])
-}
-
-/// A file goes to its maker, who is of grade low, whatever the label and the list of its directory say of others.
-const LOW: &str = "
+== a new file goes to its maker
+# A file goes to its maker, who is of grade low, whatever the label and the list of its directory say of others.
 0 setproclabel mls/low(low-high) -> 0 ok 0
 0 open /bin/x w c -> 0 ok 0
 0 info /bin/x -> 0 text file:0:0:644:0
 0 setcred 1001 100 - -> 0 ok 0
 0 open /bin/y w c -> 0 err EACCES list
-";
 
-/// A default list is handed down, and the umask plays no part then; a new directory takes the list too.
-const HANDED_DOWN: &str = "
+== a default list is handed down
+# A default list is handed down, and the umask plays no part then; a new directory takes the list too.
 0 mkdir /tmp/d 777 -> 0 ok 0
 0 setacl /tmp/d default user::rwx,group::rwx,other::rw- -> 0 ok 0
 0 open /tmp/d/f w c -> 0 ok 0
@@ -102,9 +88,3 @@ const HANDED_DOWN: &str = "
 0 open /tmp/g w c -> 0 ok 1
 0 getacl /tmp/g access -> 0 text user::rw-,group::r--,other::r--
 ";
-
-#[test]
-fn a_new_file_is_of_its_maker_and_of_its_directory(rt: HostRuntime) -> Result<(), Fail> {
-    check(&rt, rt.alloc(), "", &[LOW])?;
-    check(&rt, rt.alloc(), "", &[HANDED_DOWN])
-}

@@ -1,22 +1,14 @@
 //! Paths and the rules that deny them, with the order of the rules where two hold at once.
 
-use crate::session::check;
-use std::test::Fail;
-
-/// A directory that only its owner may search, and one of grade 20 that is closed too. Then the superuser is of grade 10.
-const CLOSED: &str = "
+/// Scenes, in the form of the module scenes.
+pub const SCENES: &str = "
+== each path is denied by its first rule
+# A directory that only its owner may search, and one of grade 20 that is closed too. Then the superuser is of grade 10.
 0 mkdir /tmp/closed 700 -> 0 ok 0
 0 mkdir /tmp/secret 700 -> 0 ok 0
 0 setlabel /tmp/secret mls/20 -> 0 ok 0
 0 setproclabel mls/10(low-high) -> 0 ok 0
-";
-
-const USER: &str = "
-0 setcred 1001 100 - -> 0 ok 0
-";
-
-/// Paths of a superuser: the answer relabel says that no rule denies the path.
-const OF_SUPERUSER: &str = "
+# Paths of a superuser: the answer relabel says that no rule denies the path.
 0 setlabel / mls/equal -> 0 err EPERM relabel
 0 setlabel tmp mls/equal -> 0 err EPERM relabel
 0 setlabel /bin/../tmp/closed/ mls/equal -> 0 err EPERM relabel
@@ -35,10 +27,8 @@ const OF_SUPERUSER: &str = "
 0 setlabel /tmp/secret/.. mls/equal -> 0 err EACCES label-read
 0 setlabel /x/../tmp/closed/x mls/equal -> 0 err ENOENT no-entry
 0 setlabel /tmp/closed/../secret/x mls/equal -> 0 err EACCES label-read
-";
-
-/// The same paths of a user: the answer owner says that no rule denies the path.
-const OF_USER: &str = "
+0 setcred 1001 100 - -> 0 ok 0
+# The same paths of a user: the answer owner says that no rule denies the path.
 0 setlabel / mls/equal -> 0 err EPERM owner
 0 setlabel tmp mls/equal -> 0 err EPERM owner
 0 setlabel /bin/../tmp/closed/ mls/equal -> 0 err EPERM owner
@@ -59,15 +49,14 @@ const OF_USER: &str = "
 # An earlier part is asked before a later one.
 0 setlabel /x/../tmp/closed/x mls/equal -> 0 err ENOENT no-entry
 0 setlabel /tmp/closed/../secret/x mls/equal -> 0 err EACCES search
-";
 
-#[test]
-fn each_path_is_denied_by_its_first_rule(rt: HostRuntime) -> Result<(), Fail> {
-    check(&rt, rt.alloc(), "", &[CLOSED, OF_SUPERUSER, USER, OF_USER])
-}
-
-/// Paths have at most 1,023 bytes and names at most 255.
-const LONG: &str = "
+== long paths and names are denied first
+0 mkdir /tmp/closed 700 -> 0 ok 0
+0 mkdir /tmp/secret 700 -> 0 ok 0
+0 setlabel /tmp/secret mls/20 -> 0 ok 0
+0 setproclabel mls/10(low-high) -> 0 ok 0
+0 setcred 1001 100 - -> 0 ok 0
+# Paths have at most 1,023 bytes and names at most 255.
 # The name is too long too, and the directory is closed.
 0 info /tmp/closed/~n*1012~ -> 0 err ENAMETOOLONG path-long
 0 info /tmp/closed/~n*1011~ -> 0 err ENAMETOOLONG name-long
@@ -82,8 +71,3 @@ const LONG: &str = "
 0 info ~/*1024~ -> 0 err ENAMETOOLONG path-long
 0 info ~/*1022~n -> 0 err ENOENT no-entry
 ";
-
-#[test]
-fn long_paths_and_names_are_denied_first(rt: HostRuntime) -> Result<(), Fail> {
-    check(&rt, rt.alloc(), "", &[CLOSED, USER, LONG])
-}

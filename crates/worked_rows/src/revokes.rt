@@ -43,14 +43,18 @@ const REVOKES: [(u32, &str, Option<Rule>); 6] = [
     (SUPERUSER, "/dev/tty0", None),
 ];
 
+/// The rule that denies a revoke of a path.
+fn denied(rt: &impl Abort, tree: &Tree, uid: u32, path: &str) -> Option<Rule> {
+    let path = PathText::from_slice(path.as_bytes()).expect(rt, "a path");
+    may_revoke(tree, &asker(rt, tree, uid), &path).err()
+}
+
 #[test]
 fn the_owner_of_a_line_may_revoke_it(rt: HostRuntime) -> Result<(), Fail> {
     let boot = read_boot(rt.alloc(), b"")?;
     let tree = Tree::new(rt.alloc(), &boot)?;
-    for (uid, path, denied) in REVOKES {
-        let path_text = PathText::from_slice(path.as_bytes()).expect(&rt, "a path");
-        let answer = may_revoke(&tree, &asker(&rt, &tree, uid), &path_text);
-        assert_eq!(rt; answer.err(), denied, "{path:?}");
+    for (uid, path, rule) in &REVOKES {
+        assert!(rt; denied(&rt, &tree, *uid, path) == *rule, "{path}");
     }
     Ok(())
 }

@@ -1,12 +1,11 @@
 //! chmod(2), chown(2), acl_set_file(3), mac_set_file(3), revoke(2) and the calls on who asks, where of two rules that hold at once
 //! the first is named.
 
-use crate::session::check;
-use std::test::Fail;
-
-/// Nodes of the superuser and of a user, 1001. Those of `mls/10:3` neither dominate nor are dominated by `mls/10:2`, and are
-/// outside the range of those who ask.
-const MADE: &str = "
+/// Scenes, in the form of the module scenes.
+pub const SCENES: &str = "
+== each call on rights is denied by its first rule
+# Nodes of the superuser and of a user, 1001. Those of `mls/10:3` neither dominate nor are dominated by `mls/10:2`, and are
+# outside the range of those who ask.
 0 mkdir /tmp/closed 700 -> 0 ok 0
 0 mkdir /tmp/dir 777 -> 0 ok 0
 0 open /tmp/f r c 777 -> 0 ok 0
@@ -30,20 +29,14 @@ const MADE: &str = "
 0 setlabel /tmp/his mls/10:2 -> 0 ok 0
 0 setlabel /dev/tty7 mls/10:3 -> 0 ok 0
 0 setproclabel mls/10:2(5:2-20:2+3) -> 0 ok 0
-";
-
-/// Of the superuser. Of the lines with a remark, here and below, a later rule would hold too.
-const OF_SUPERUSER: &str = "
+# Of the superuser. Of the lines with a remark, here and below, a later rule would hold too.
 0 chmod /tmp/apart 640 -> 0 err EACCES label-write
 0 chown /tmp/apart 7 8 -> 0 err EACCES label-write
 0 chmod /tmp/his 640 -> 0 ok 0
 0 chown /tmp/his 7 8 -> 0 ok 0
 0 revoke /dev/tty7 -> 0 err EACCES label-write
 0 setcred 1001 100 - -> 0 ok 0
-";
-
-/// Of the user.
-const MODES: &str = "
+# Of the user.
 0 chmod /tmp/x 640 -> 0 err ENOENT no-entry
 # The rules of the node too, here and below at each call.
 0 chmod /tmp/closed/apart 640 -> 0 err EACCES search
@@ -59,9 +52,6 @@ const MODES: &str = "
 0 chown /tmp/mine 7 8 -> 0 err EPERM super
 # The owner too.
 0 revoke /dev/tty7 -> 0 err EACCES label-write
-";
-
-const LABELS: &str = "
 0 setlabel /tmp/x mls/10:3 -> 0 err ENOENT no-entry
 0 setlabel /tmp/closed/apart mls/10:3 -> 0 err EACCES search
 # The range too.
@@ -75,9 +65,6 @@ const LABELS: &str = "
 0 getlabel /tmp/x -> 0 err ENOENT no-entry
 0 getlabel /tmp/closed/apart -> 0 err EACCES search
 0 getlabel /tmp/apart -> 0 err EACCES label-read
-";
-
-const LISTS: &str = "
 0 setacl /tmp/closed/apart default user::rwx,group::r-x -> 0 err EACCES search
 # The owner too, that it is a file, and the list.
 0 setacl /tmp/apart default user::rwx,group::r-x -> 0 err EACCES label-write
@@ -93,32 +80,15 @@ const LISTS: &str = "
 # That it is a file too.
 0 getacl /tmp/apart default -> 0 err EACCES label-read
 0 getacl /tmp/f default -> 0 err ENOTDIR not-dir
-";
 
-#[test]
-fn each_call_on_rights_is_denied_by_its_first_rule(rt: HostRuntime) -> Result<(), Fail> {
-    check(
-        &rt,
-        rt.alloc(),
-        "",
-        &[MADE, OF_SUPERUSER, MODES, LABELS, LISTS],
-    )
-}
-
-/// A revoke below a directory that may not be searched. The owner would deny it too.
-const REVOKES: &str = "
+== a revoke is denied by the way to the line
+# A revoke below a directory that may not be searched. The owner would deny it too.
 0 chmod /dev 700 -> 0 ok 0
 0 setcred 1001 100 - -> 0 ok 0
 0 revoke /dev/tty7 -> 0 err EACCES search
-";
 
-#[test]
-fn a_revoke_is_denied_by_the_way_to_the_line(rt: HostRuntime) -> Result<(), Fail> {
-    check(&rt, rt.alloc(), "", &[REVOKES])
-}
-
-/// Changes by a superuser, and what is told of the node after each. The texts of lists and labels have one order.
-const CHANGES: &str = "
+== what is given is told
+# Changes by a superuser, and what is told of the node after each. The texts of lists and labels have one order.
 0 open /tmp/mine r c 777 -> 0 ok 0
 0 getacl /tmp/mine access -> 0 text user::rwx,group::r-x,other::r-x
 0 setacl /tmp/mine access other::---,mask::r-x,user:1001:rwx,group::r--,user::rwx -> 0 ok 0
@@ -136,15 +106,9 @@ const CHANGES: &str = "
 0 getacl /tmp/dir default -> 0 text user::rwx,user:1001:rwx,group::r--,mask::r-x,other::---
 0 setacl /tmp/dir default - -> 0 ok 0
 0 getacl /tmp/dir default -> 0 text -
-";
 
-#[test]
-fn what_is_given_is_told(rt: HostRuntime) -> Result<(), Fail> {
-    check(&rt, rt.alloc(), "", &[CHANGES])
-}
-
-/// The groups stay in their order and with repeats; the mask before is told in decimal.
-const BECOMES: &str = "
+== a process becomes another
+# The groups stay in their order and with repeats; the mask before is told in decimal.
 0 setcred 0 0 - -> 0 ok 0
 0 ident -> 0 text 1:0:0:-:mls/equal(low-high)
 0 setproclabel mls/10:2(5:2-20:2+3) -> 0 ok 0
@@ -156,8 +120,3 @@ const BECOMES: &str = "
 0 umask 77 -> 0 ok 18
 0 umask 22 -> 0 ok 63
 ";
-
-#[test]
-fn a_process_becomes_another(rt: HostRuntime) -> Result<(), Fail> {
-    check(&rt, rt.alloc(), "", &[BECOMES])
-}

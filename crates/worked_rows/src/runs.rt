@@ -1,8 +1,11 @@
 //! Runs of the program of which texts, lengths or faults are what matters.
 
-use crate::session::{Faults, Session, expanded};
+use crate::session::{Faults, ROOM, Session};
+use crate::texts::expanded;
+use arrayvec::ArrayVec;
 use std::alloc::Global;
 use std::test::Fail;
+use tty_host::Status;
 
 /// Scripts as texts. A row is a command line, a boot text, a script, what is written, and numbers: the status, the calls at which the boot source,
 /// the script and the sink fail, and how many bytes the sink takes. A number that is not there is 0: no fault, and room enough.
@@ -118,70 +121,108 @@ script b^|^0 open /dev/tty7 rw|0 write 0 6869|take tty7 9|^^4 0 1 1
 script b^recheck on^0 open /dev/tty7 rw|0 write 0 6869|take tty7 9|^^3 2 1
 ";
 
-/// A number, or 0 where there is none.
-fn number(word: Option<&str>) -> u64 {
-    match word {
-        Some(word) => word.parse::<u64>().unwrap_or(0),
-        None => 0,
+/// The parts of a row.
+fn fields_of(row: &str) -> ArrayVec<&str, 5> {
+    let mut fields = ArrayVec::new();
+    for field in row.split('^') {
+        let _ = fields.try_push(field);
     }
+    fields
 }
 
 /// The numbers of a row: the status, the faults and the room.
-fn numbers(text: &str) -> (u64, Faults, usize) {
-    let mut words = text.split(' ');
-    let status = number(words.next());
-    let faults = Faults {
-        boot: number(words.next()),
-        script: number(words.next()),
-        sink: number(words.next()),
+fn numbers_of(text: &str) -> [u64; 5] {
+    let mut numbers = [0; 5];
+    for (place, word) in text.split(' ').enumerate() {
+        if place < 5 {
+            numbers[place] = word.parse::<u64>().unwrap_or(0);
+        }
+    }
+    numbers
+}
+
+/// The texts of a row.
+#[derive(Drop)]
+struct Run<'a> {
+    command: &'a str,
+    boot_text: &'a str,
+    script: &'a str,
+    answers: &'a str,
+}
+
+/// Whether the program writes what a row says.
+fn is_right(alloc: Global, run: &Run, numbers: [u64; 5]) -> Result<bool, Fail> {
+    let [status, boot, script, sink, room] = numbers;
+    let boot_text = expanded(alloc, run.boot_text)?;
+    let lines = expanded(alloc, run.script)?;
+    let answers = expanded(alloc, run.answers)?;
+    let session = Session {
+        command: run.command,
+        boot_text: &boot_text,
+        script: &lines,
+        faults: Faults { boot, script, sink },
+        room: if room == 0 { ROOM } else { room as usize },
     };
-    match number(words.next()) {
-        0 => (status, faults, 4_000_000),
-        room => (status, faults, room.min(4_000_000) as usize),
+    Ok(session.writes(alloc, &answers, status)?)
+}
+
+fn is_right_row(alloc: Global, row: &str) -> Result<bool, Fail> {
+    match fields_of(row).as_slice() {
+        [command, boot_text, script, answers, numbers] => {
+            let run = Run {
+                command,
+                boot_text,
+                script,
+                answers,
+            };
+            is_right(alloc, &run, numbers_of(numbers))
+        }
+        _ => Ok(row.is_empty() || row.starts_with('#')),
     }
 }
 
-/// The run of a row.
-fn run_of(alloc: Global, row: &str) -> Result<Session, Fail> {
-    let mut fields = row.split('^');
-    let command = fields.next().unwrap_or("");
-    let boot_text = fields.next().unwrap_or("");
-    let script = fields.next().unwrap_or("");
-    let answers = fields.next().unwrap_or("");
-    let (status, faults, room) = numbers(fields.next().unwrap_or(""));
-    Ok(Session {
-        command: command.to_string(alloc)?,
-        boot_text: expanded(alloc, boot_text, 0)?,
-        script: expanded(alloc, script, 0)?,
-        answers: expanded(alloc, answers, 0)?,
-        faults,
-        room,
-        status,
-    })
-}
+const TABLES: [&str; 5] = [SCRIPTS, BAD_LINES, LENGTHS, BOOTS, FAULTS];
 
 #[test]
 fn runs_of_texts_lengths_and_faults(rt: HostRuntime) -> Result<(), Fail> {
-    for table in [SCRIPTS, BAD_LINES, LENGTHS, BOOTS, FAULTS] {
+    for table in &TABLES {
         for row in table.split_terminator('\n') {
-            if !row.is_empty() && !row.starts_with('#') {
-                run_of(rt.alloc(), row)?.check(&rt, rt.alloc())?;
-            }
+            let is_right = is_right_row(rt.alloc(), row)?;
+            assert!(rt; is_right, "{row}");
         }
     }
     Ok(())
 }
 
-/// Words of no form, and forms that are not built yet, give the usage line, and so nothing is read.
+/// Words of no form, and forms that are not built yet.
+const NO_FORM: [&str; 6] = ["script a b", "jump", "", "jump b", "session b", "Script"];
+
+const USAGE: &str =
+    "usage: revtty script [BOOT] | session [BOOT] | load N START | serve DIR BOOT\n";
+
+/// Words of no form give the usage line, and so nothing is read.
 #[test]
 fn usage(rt: HostRuntime) -> Result<(), Fail> {
-    for command in ["script a b", "jump", "", "jump b", "session b", "Script"] {
-        let mut session = run_of(rt.alloc(), "^^^^1 1 1")?;
-        session.command.push_str(command)?;
-        session.answers.extend_from_slice(
-            b"usage: revtty script [BOOT] | session [BOOT] | load N START | serve DIR BOOT\n",
-        )?;
-        session.check(&rt, rt.alloc())?;
+    for command in &NO_FORM {
+        let session = Session {
+            command,
+            boot_text: b"",
+            script: b"",
+            faults: Faults {
+                boot: 1,
+                script: 1,
+                sink: 0,
+            },
+            room: ROOM,
+        };
+        let is_told = session.writes(rt.alloc(), USAGE.as_bytes(), 1)?;
+        assert!(rt; is_told, "{command}");
     }
     Ok(())
+}
+
+/// The numbers of the statuses that no run here has.
+#[test]
+fn other_statuses(rt: HostRuntime) {
+    assert!(rt; Status::Memory.code() == 5 && Status::NoWorker.code() == 8);
 }

@@ -1,10 +1,9 @@
 //! Worked sessions of one process, each from a boot of its own.
 
-use crate::session::check;
-use std::test::Fail;
-
-/// A byte that came before the revoke is read by nobody, and nothing is left to be sent.
-const FIRST_RUN: &str = "
+/// Scenes, in the form of the module scenes.
+pub const SCENES: &str = "
+== first run
+# A byte that came before the revoke is read by nobody, and nothing is left to be sent.
 0 open /dev/tty7 rw -> 0 ok 0
 in tty7 68 -> tty7 noted
 0 read 0 100 -> 0 bytes 68
@@ -15,10 +14,9 @@ in tty7 79 -> tty7 noted
 0 write 0 7a -> 0 err EIO dead
 take tty7 100 -> tty7 out -
 0 close 0 -> 0 ok 0
-";
 
-/// After a revoke a new descriptor reads no byte that came before it was opened.
-const NO_EARLIER_BYTE: &str = "
+== no earlier byte is read
+# After a revoke a new descriptor reads no byte that came before it was opened.
 0 open /dev/tty7 rw -> 0 ok 0
 in tty7 41 -> tty7 noted
 0 revoke /dev/tty7 -> 0 ok 0
@@ -26,19 +24,17 @@ in tty7 42 -> tty7 noted
 0 open /dev/tty7 rw -> 0 ok 1
 in tty7 43 -> tty7 noted
 0 read 1 9 -> 0 bytes 43
-";
 
-/// Flags that do not go together, a file that is there and is wanted absent, and an open with all
-/// of its words.
-const OPEN_WORDS: &str = "
+== words of an open
+# Flags that do not go together, a file that is there and is wanted absent, and an open with all
+# of its words.
 0 open /dev/tty7 r t -> 0 err EINVAL flags
 0 open /dev/tty7 rw x -> 0 err EINVAL flags
 0 open /dev/tty7 rw cx -> 0 err EEXIST exists
 0 open /dev/tty7 rw n 600 -> 0 ok 0
-";
 
-/// Directories and files, their modes and who may change them.
-const TREE_CALLS: &str = "
+== tree calls
+# Directories and files, their modes and who may change them.
 0 mkdir /tmp/d 700 -> 0 ok 0
 0 open /tmp/d/f rw c 640 -> 0 ok 0
 0 write 0 6162 -> 0 ok 2
@@ -51,10 +47,9 @@ const TREE_CALLS: &str = "
 0 chmod /tmp/d 777 -> 0 err EPERM owner
 0 list /tmp/d 0 -> 0 err EACCES list
 0 list /bin/../tmp 0 -> 0 text d
-";
 
-/// Labels at opens, by one process.
-const LABELS_AT_OPEN: &str = "
+== labels at opens
+# Labels at opens, by one process.
 0 open /tmp/low rw c 666 -> 0 ok 0
 0 setlabel /tmp/low mls/5:2 -> 0 ok 0
 0 setproclabel mls/10:2(5:2-20:2+3) -> 0 ok 0
@@ -63,10 +58,9 @@ const LABELS_AT_OPEN: &str = "
 0 setproclabel mls/5:2(5:2-20:2+3) -> 0 ok 0
 0 open /tmp/low w -> 0 ok 2
 0 setproclabel mls/equal -> 0 err EPERM proclabel
-";
 
-/// Lines and the devices: the tree has them, and only line 7 can be opened.
-const DEVICES: &str = "
+== devices
+# Lines and the devices: the tree has them, and only line 7 can be opened.
 0 open /dev/tty6 rw -> 0 err EAGAIN not-ready
 0 open /dev/tty0 rw n -> 0 err EAGAIN not-ready
 0 open /dev/tty rw -> 0 err ENXIO no-tty
@@ -74,10 +68,9 @@ const DEVICES: &str = "
 0 unlink /dev/tty7 -> 0 err EBUSY device
 0 info /dev/tty7 -> 0 text line:0:0:600:0
 0 open /dev r -> 0 err EISDIR is-dir
-";
 
-/// Offsets, appends, gaps of zeros and truncation (open(2), read(2), write(2)).
-const OFFSETS: &str = "
+== offsets
+# Offsets, appends, gaps of zeros and truncation (open(2), read(2), write(2)).
 0 open /tmp/f rw c -> 0 ok 0
 0 open /tmp/f rw a -> 0 ok 1
 0 write 0 6162 -> 0 ok 2
@@ -89,10 +82,9 @@ const OFFSETS: &str = "
 0 open /tmp/f r -> 0 ok 3
 0 read 3 9 -> 0 bytes 00000064
 0 write 3 65 -> 0 err EBADF fd-mode
-";
 
-/// Lists, labels and callers as texts; the umask, and where a directory has a default list.
-const TEXTS: &str = "
+== texts
+# Lists, labels and callers as texts; the umask, and where a directory has a default list.
 0 ident -> 0 text 1:0:0:-:mls/equal(low-high)
 0 umask 77 -> 0 ok 18
 0 umask 22 -> 0 ok 63
@@ -107,10 +99,9 @@ const TEXTS: &str = "
 0 getlabel /etc -> 0 text mls/low
 0 getacl /tmp/d/f default -> 0 err ENOTDIR not-dir
 0 setacl /tmp/d access - -> 0 err EINVAL acl-bad
-";
 
-/// The first rule of two is named, also below a directory that may not be searched, and only the owner revokes.
-const FIRST_RULES: &str = "
+== first rules
+# The first rule of two is named, also below a directory that may not be searched, and only the owner revokes.
 0 mkdir /tmp/d 700 -> 0 ok 0
 0 open /dev/tty7 rw -> 0 ok 0
 0 setcred 1001 100 20+30 -> 0 ok 0
@@ -122,48 +113,25 @@ const FIRST_RULES: &str = "
 0 ident -> 0 text 1:1001:100:20+30:mls/equal(low-high)
 0 chdir /tmp/d -> 0 err EACCES search
 0 open /tmp/f r x -> 0 err EINVAL flags
-";
 
-#[test]
-fn worked_sessions(rt: HostRuntime) -> Result<(), Fail> {
-    for rows in [
-        FIRST_RUN,
-        NO_EARLIER_BYTE,
-        OPEN_WORDS,
-        TREE_CALLS,
-        LABELS_AT_OPEN,
-        DEVICES,
-        OFFSETS,
-        TEXTS,
-        FIRST_RULES,
-    ] {
-        check(&rt, rt.alloc(), "", &[rows])?;
-    }
-    Ok(())
-}
-
-/// A label that was raised since the open stops a read only where labels are looked at again.
-const RAISED: &str = "
+== a raised label with recheck == recheck on
+# A label that was raised since the open stops a read only where labels are looked at again.
 0 open /tmp/f rw c 644 -> 0 ok 0
 0 write 0 6162 -> 0 ok 2
 0 setlabel /tmp/f mls/5 -> 0 ok 0
 0 open /tmp/f r -> 0 ok 1
 0 setlabel /tmp/f mls/15 -> 0 ok 0
 0 setproclabel mls/10(5-20) -> 0 ok 0
-";
-
-const RECHECKED: &str = "
 0 read 1 9 -> 0 err EACCES label-read
 0 write 0 63 -> 0 ok 1
-";
 
-const UNCHECKED: &str = "
+== a raised label without recheck
+0 open /tmp/f rw c 644 -> 0 ok 0
+0 write 0 6162 -> 0 ok 2
+0 setlabel /tmp/f mls/5 -> 0 ok 0
+0 open /tmp/f r -> 0 ok 1
+0 setlabel /tmp/f mls/15 -> 0 ok 0
+0 setproclabel mls/10(5-20) -> 0 ok 0
 0 read 1 9 -> 0 bytes 6162
 0 write 0 63 -> 0 ok 1
 ";
-
-#[test]
-fn recheck(rt: HostRuntime) -> Result<(), Fail> {
-    check(&rt, rt.alloc(), "recheck on\n", &[RAISED, RECHECKED])?;
-    check(&rt, rt.alloc(), "", &[RAISED, UNCHECKED])
-}

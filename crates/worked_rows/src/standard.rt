@@ -1,10 +1,9 @@
 //! The nodes that a boot makes, and the ways to them.
 
-use crate::session::check;
-use std::test::Fail;
-
-/// Directories and their listings, and what is told of nodes. Grades above low may read all but `/dev` and `/tmp` alike.
-const NODES: &str = "
+/// Scenes, in the form of the module scenes.
+pub const SCENES: &str = "
+== a boot makes the standard nodes
+# Directories and their listings, and what is told of nodes. Grades above low may read all but `/dev` and `/tmp` alike.
 0 list / 0 -> 0 text bin/dev/etc/home/tmp
 0 list /bin 0 -> 0 text cat/chmod/chown/echo/getfacl/getfmac/getty/halt/id/init/kill/login/ls/mkdir/ps/revoke/rm/setfacl/setfmac/sh/stty/tty
 0 list /etc 0 -> 0 text ttys/users
@@ -37,15 +36,9 @@ const NODES: &str = "
 0 getlabel /tmp -> 0 text mls/equal
 0 open /bin/cat r -> 0 ok 0
 0 read 0 512 -> 0 bytes 696d616765206361740a
-";
 
-#[test]
-fn a_boot_makes_the_standard_nodes(rt: HostRuntime) -> Result<(), Fail> {
-    check(&rt, rt.alloc(), "", &[NODES])
-}
-
-/// Empty parts and `.` are skipped, and `..` is the parent, of the root itself. A part that is absent may be the last one alone.
-const WAYS: &str = "
+== paths lead where they should
+# Empty parts and `.` are skipped, and `..` is the parent, of the root itself. A part that is absent may be the last one alone.
 0 info . -> 0 text dir:0:0:755:0
 0 info bin/cat -> 0 text file:0:0:755:10
 0 list .. 0 -> 0 text bin/dev/etc/home/tmp
@@ -66,8 +59,3 @@ const WAYS: &str = "
 0 mkdir ../c 700 -> 0 ok 0
 0 list .. 0 -> 0 text a/b/c
 ";
-
-#[test]
-fn paths_lead_where_they_should(rt: HostRuntime) -> Result<(), Fail> {
-    check(&rt, rt.alloc(), "", &[WAYS])
-}
