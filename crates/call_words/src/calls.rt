@@ -8,7 +8,7 @@ use acl_core::Cred;
 use label_core::{Element, Subject};
 
 /// For what a file is opened (open(2)): `r`, `w` or `rw`.
-#[derive(Clone, Copy, Debug, PartialEq, Eq)]
+#[derive(Clone, Copy, PartialEq, Eq)]
 pub enum Access {
     Read,
     Write,

@@ -3,7 +3,7 @@ ghost use Rattle.std.specs.Prelude.{◌≡◌, ◌≤◌, length};
 ghost use Rattle.call_words.specs.Rules.{errno_of, rule_word, errno_word};
 
 /// Why a call is refused. Each rule belongs to one errno.
-#[derive(Clone, Copy, Debug, PartialEq, Eq)]
+#[derive(Clone, Copy, PartialEq, Eq)]
 pub enum Rule {
     /// The caller's uid is neither the node's owner nor 0.
     Owner,

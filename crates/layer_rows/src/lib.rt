@@ -1,16 +1,11 @@
-//! The layers below the kernel, as tests: labels, access lists, the two together, blocks, trails, the outside, and the texts of event
-//! lines, answers, shell lines, terminal settings and boots, worked out by hand. They stand in a crate of their own, so that the
-//! crates below are proved once, and not once more with their tests. Nothing else is in this crate.
+//! The layers below the kernel, as tests: blocks, trails, boots, the outside, and the texts of access lists, of shell lines and of
+//! terminal settings, worked out by hand. They stand in a crate of their own, so that the crates below are proved once, and not once
+//! more with their tests. What the definitions of labels, lists, event lines and answers say of worked rows is computed in the proofs
+//! of script_model. Nothing else is in this crate.
 #![tactic(auto)]
 
 #[cfg(test)]
-mod access;
-#[cfg(test)]
-mod answers;
-#[cfg(test)]
-mod event_lines;
-#[cfg(test)]
-mod labels;
+mod laws;
 #[cfg(test)]
 mod lists;
 #[cfg(test)]

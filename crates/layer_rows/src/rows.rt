@@ -1,55 +1,29 @@
 //! The tables of the layers below the kernel, and the one loop over them. A row is a question and its answer, as
 //! `WORD OF -> ANSWER`.
 
-use crate::{access, event_lines, labels, lists, shell_lines, terminals};
-use arrayvec::ArrayVec;
+use crate::{lists, shell_lines, terminals};
 use std::alloc::Global;
-use std::test::Fail;
 
 /// What the rows of a table ask about.
 #[derive(Clone, Copy)]
 enum Layer {
-    Labels,
     Lists,
-    Access,
     Terminals,
     ShellLines,
-    EventLines,
 }
 
-const TABLES: [(Layer, &str); 6] = [
-    (Layer::Labels, labels::ROWS),
+const TABLES: [(Layer, &str); 3] = [
     (Layer::Lists, lists::ROWS),
-    (Layer::Access, access::ROWS),
     (Layer::Terminals, terminals::ROWS),
     (Layer::ShellLines, shell_lines::ROWS),
-    (Layer::EventLines, event_lines::ROWS),
 ];
-
-/// The words of a text, of which there are at most six.
-pub fn fields_of(text: &str) -> ArrayVec<&str, 6> {
-    let mut fields = ArrayVec::new();
-    for field in text.split(' ') {
-        let _ = fields.try_push(field);
-    }
-    fields
-}
-
-/// `yes` or `no`.
-pub fn said(alloc: Global, truth: bool) -> Option<Vec<u8>> {
-    let word = if truth { "yes" } else { "no" };
-    Vec::from_slice(alloc, word.as_bytes()).ok()
-}
 
 /// The answer to a question.
 fn told(alloc: Global, layer: Layer, asked: &str, of: &str) -> Option<Vec<u8>> {
     match layer {
-        Layer::Labels => labels::told(alloc, asked, of),
         Layer::Lists => lists::told(alloc, asked, of),
-        Layer::Access => access::told(alloc, of),
         Layer::Terminals => terminals::told(alloc, of),
         Layer::ShellLines => shell_lines::told(alloc, of),
-        Layer::EventLines => event_lines::told(alloc, of),
     }
 }
 

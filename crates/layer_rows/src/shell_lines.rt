@@ -1,6 +1,6 @@
 //! That the definitions mean what a shell's user expects, and where lines have their faults.
 
-use sh_text::{Command, Line, NoMemory, ShFault, Word, laws, read_line};
+use sh_text::{Command, Line, NoMemory, ShFault, Word, read_line};
 use std::alloc::Global;
 
 /// Lines, and their trees as `shown` writes them, or the place of their fault.
@@ -88,11 +88,4 @@ pub fn told(alloc: Global, text: &str) -> Option<Vec<u8>> {
         Err(ShFault::Text { at }) => Some(format!(in alloc; "at {at}").ok()?.into_bytes()),
         Err(ShFault::NoMemory) => None,
     }
-}
-
-#[test]
-fn laws_are_called() {
-    laws::words_are_read_as_spelled();
-    laws::lines_are_read_as_spelled();
-    laws::line_faults_are_first();
 }

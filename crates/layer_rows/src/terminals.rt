@@ -2,7 +2,7 @@
 
 use arrayvec::ArrayVec;
 use std::alloc::Global;
-use termios_core::{LINE_ROOM, laws, print_termios, read_termios};
+use termios_core::{LINE_ROOM, print_termios, read_termios};
 
 /// Texts, and what is printed of the settings that they spell, if any.
 pub const ROWS: &str = "
@@ -60,11 +60,4 @@ pub fn told(alloc: Global, text: &str) -> Option<Vec<u8>> {
         }
         None => Vec::from_slice(alloc, b"none").ok(),
     }
-}
-
-#[test]
-fn laws_are_called() {
-    laws::read_back();
-    laws::one_grammar();
-    laws::one_word();
 }

@@ -1,2 +1,5 @@
 pub mod SeenRuns
+mod WorkedLabels
+mod WorkedLines
+mod WorkedLists
 mod WorkedRows
