@@ -18,7 +18,7 @@ pub struct ListFault {
 }
 
 /// Where reading stops: how many bytes are left from the first one on that no list has there.
-#[derive(Clone, Copy, PartialEq, Eq)]
+#[derive(Clone, Copy)]
 pub(crate) struct Stop {
     pub(crate) left: usize,
 }

@@ -8,7 +8,7 @@ use call_words::{DESCRIPTORS, Node};
 use std::marker::Model;
 
 /// An open file (open(2)).
-#[derive(Clone, Copy, PartialEq, Eq)]
+#[derive(Clone, Copy)]
 pub struct OpenFile {
     /// The node that it is of.
     pub node: Node,

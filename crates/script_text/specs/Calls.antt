@@ -22,18 +22,18 @@ open_of (path ∷ access ∷ flags ∷ []) = open_with path access (flags_of fla
 open_of (path ∷ access ∷ flags ∷ mode ∷ []) = open_with path access (flags_of flags) (mode_of mode)
 open_of _ = None
 
--- a call of one word
-abbrev pub with_one : {A : Type 0} → (List ℕ → Option A) → (A → Call) → List (List ℕ) → Option Call
+-- what is made of one word
+abbrev pub with_one : {A R : Type 0} → (List ℕ → Option A) → (A → R) → List (List ℕ) → Option R
 with_one value make (w ∷ []) = option_map make (value w)
 with_one value make _ = None
 
--- a call of two words
-abbrev pub with_two : {A B : Type 0} → (List ℕ → Option A) → (List ℕ → Option B) → (A → B → Call) → List (List ℕ) → Option Call
+-- what is made of two words
+abbrev pub with_two : {A B R : Type 0} → (List ℕ → Option A) → (List ℕ → Option B) → (A → B → R) → List (List ℕ) → Option R
 with_two first second make (v ∷ w ∷ []) = option_and_then (λ a. option_map (make a) (second w)) (first v)
 with_two first second make _ = None
 
--- a call of three words
-abbrev pub with_three : {A B C : Type 0} → (List ℕ → Option A) → (List ℕ → Option B) → (List ℕ → Option C) → (A → B → C → Call) → List (List ℕ) → Option Call
+-- what is made of three words
+abbrev pub with_three : {A B C R : Type 0} → (List ℕ → Option A) → (List ℕ → Option B) → (List ℕ → Option C) → (A → B → C → R) → List (List ℕ) → Option R
 with_three first second third make (u ∷ v ∷ w ∷ []) = option_and_then (λ a. option_and_then (λ b. option_map (make a b) (third w)) (second v)) (first u)
 with_three first second third make _ = None
 

@@ -1,7 +1,10 @@
 //! The calls of an event line.
-ghost use Rattle.std.specs.Prelude.{◌≡◌, IfSome};
+ghost use Rattle.std.specs.Prelude.{◌≡◌, ◌≤◌, IfSome};
 ghost use Rattle.call_words.specs.Calls.{HasFitMode};
-ghost use Rattle.script_text.specs.Calls.{open_of, close_of, read_of, write_of, chdir_of, mkdir_of, rmdir_of, unlink_of, list_of, info_of, chmod_of, chown_of, setacl_of, getacl_of, setlabel_of, getlabel_of, setproclabel_of, ident_of, setcred_of, umask_of, revoke_of, caller_call_of, rights_call_of, path_call_of, call_of};
+ghost use Rattle.acl_core.specs.declared.mode.TheConstants.{MODE_MOST};
+ghost use Rattle.script_text.specs.Paths.{path_of};
+ghost use Rattle.script_text.specs.Values.{mode_of};
+ghost use Rattle.script_text.specs.Calls.{with_one, with_two, open_of, close_of, read_of, write_of, chdir_of, mkdir_of, rmdir_of, unlink_of, list_of, info_of, chmod_of, chown_of, setacl_of, getacl_of, setlabel_of, getlabel_of, setproclabel_of, ident_of, setcred_of, umask_of, revoke_of, caller_call_of, rights_call_of, path_call_of, call_of};
 
 use crate::numbers::read_bytes;
 use crate::paths::read_path;
@@ -11,8 +14,24 @@ use crate::values::{
 };
 use crate::words::{Words, all_three, both, is_word, only};
 use acl_core::Cred;
-use call_words::{Call, Entries, OpenFlags};
+use call_words::{Call, Entries, OpenFlags, PathText};
 use label_core::{read_element, read_subject};
+
+/// The path that is left.
+fn only_path(words: &mut Words) -> Option<PathText>
+    ensures { result ≡ with_one path_of (λ path. path) words.old }
+{
+    read_path(only(words)?)
+}
+
+/// The path and the mode that are left.
+fn path_and_mode(words: &mut Words) -> Option<(PathText, u16)>
+    ensures words { result ≡ with_two path_of mode_of (λ path mode. (path, mode)) words.old }
+    ensures most { IfSome result (λ pair. pair.1 ≤ MODE_MOST) }
+{
+    let (path, mode) = both(words)?;
+    Some((read_path(path)?, read_mode(mode)?))
+}
 
 /// `open PATH ACCESS FLAGS MODE`, where FLAGS and MODE may be absent from the right.
 fn read_open(words: &mut Words) -> Option<Call>
@@ -72,7 +91,7 @@ fn read_write(words: &mut Words) -> Option<Call>
 fn read_chdir(words: &mut Words) -> Option<Call>
     ensures { result ≡ chdir_of words.old }
 {
-    let path = read_path(only(words)?)?;
+    let path = only_path(words)?;
     Some(Call::Chdir { path })
 }
 
@@ -81,9 +100,7 @@ fn read_mkdir(words: &mut Words) -> Option<Call>
     ensures call { result ≡ mkdir_of words.old }
     ensures fit { IfSome result HasFitMode }
 {
-    let (path, mode) = both(words)?;
-    let path = read_path(path)?;
-    let mode = read_mode(mode)?;
+    let (path, mode) = path_and_mode(words)?;
     Some(Call::Mkdir { path, mode })
 }
 
@@ -91,7 +108,7 @@ fn read_mkdir(words: &mut Words) -> Option<Call>
 fn read_rmdir(words: &mut Words) -> Option<Call>
     ensures { result ≡ rmdir_of words.old }
 {
-    let path = read_path(only(words)?)?;
+    let path = only_path(words)?;
     Some(Call::Rmdir { path })
 }
 
@@ -99,7 +116,7 @@ fn read_rmdir(words: &mut Words) -> Option<Call>
 fn read_unlink(words: &mut Words) -> Option<Call>
     ensures { result ≡ unlink_of words.old }
 {
-    let path = read_path(only(words)?)?;
+    let path = only_path(words)?;
     Some(Call::Unlink { path })
 }
 
@@ -117,7 +134,7 @@ fn read_list(words: &mut Words) -> Option<Call>
 fn read_info(words: &mut Words) -> Option<Call>
     ensures { result ≡ info_of words.old }
 {
-    let path = read_path(only(words)?)?;
+    let path = only_path(words)?;
     Some(Call::Info { path })
 }
 
@@ -126,9 +143,7 @@ fn read_chmod(words: &mut Words) -> Option<Call>
     ensures call { result ≡ chmod_of words.old }
     ensures fit { IfSome result HasFitMode }
 {
-    let (path, mode) = both(words)?;
-    let path = read_path(path)?;
-    let mode = read_mode(mode)?;
+    let (path, mode) = path_and_mode(words)?;
     Some(Call::Chmod { path, mode })
 }
 
@@ -178,7 +193,7 @@ fn read_setlabel(words: &mut Words) -> Option<Call>
 fn read_getlabel(words: &mut Words) -> Option<Call>
     ensures { result ≡ getlabel_of words.old }
 {
-    let path = read_path(only(words)?)?;
+    let path = only_path(words)?;
     Some(Call::GetLabel { path })
 }
 
@@ -225,7 +240,7 @@ fn read_umask(words: &mut Words) -> Option<Call>
 fn read_revoke(words: &mut Words) -> Option<Call>
     ensures { result ≡ revoke_of words.old }
 {
-    let path = read_path(only(words)?)?;
+    let path = only_path(words)?;
     Some(Call::Revoke { path })
 }
 

@@ -18,7 +18,7 @@ pub enum ShFault {
 }
 
 /// Why reading stops.
-#[derive(Clone, Copy, PartialEq, Eq)]
+#[derive(Clone, Copy)]
 pub(crate) enum Stop {
     /// How many bytes are left from the fault on.
     Text { left: usize },

@@ -13,7 +13,7 @@ const QUOTE: u8 = b'\'';
 const BACKSLASH: u8 = b'\\';
 
 /// How the next byte of a word is quoted.
-#[derive(Clone, Copy, PartialEq, Eq)]
+#[derive(Clone, Copy)]
 pub(crate) enum Quoting {
     /// Not at all.
     Bare,

@@ -6,7 +6,7 @@ use crate::machine::{Machine, NoMemory};
 use std::marker::Model;
 
 /// What a tally is asked.
-#[derive(Clone, Copy, PartialEq, Eq)]
+#[derive(Clone, Copy)]
 pub enum TallyEvent {
     /// Adds a number, modulo 2^32.
     Add(u8),
@@ -24,7 +24,7 @@ pub enum TallyDecision {
 }
 
 /// A sum, which contracts see as a number.
-#[derive(Clone, Copy, Default, PartialEq, Eq)]
+#[derive(Clone, Copy, Default)]
 pub struct Tally {
     sum: u32,
 }

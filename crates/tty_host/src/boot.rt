@@ -10,7 +10,7 @@ use std::alloc::Global;
 use user_db::{BOOT_TEXT_BYTES, Boot, BootFault, read_boot};
 
 /// Why a source gives no boot.
-#[derive(Clone, Copy, PartialEq, Eq)]
+#[derive(Clone, Copy)]
 pub enum NoBoot {
     /// The number of the first bad line of its text, counted from 1.
     Line(u32),

@@ -24,7 +24,7 @@ use std::alloc::Global;
 use user_db::Boot;
 
 /// Why a run ends before its text does.
-#[derive(Clone, Copy, PartialEq, Eq)]
+#[derive(Clone, Copy)]
 pub enum Stop {
     BadLine,
     Full,

@@ -13,7 +13,7 @@ pub const BOOT_LINE_BYTES: usize = 4096;
 pub const BOOT_TEXT_BYTES: usize = BOOT_LINES as usize * (BOOT_LINE_BYTES + 1);
 
 /// What a line of a boot text says.
-#[derive(Clone, Copy, PartialEq, Eq)]
+#[derive(Clone, Copy)]
 pub(crate) enum BootLine {
     /// Whether reads and writes check the labels anew.
     Recheck(bool),

@@ -20,11 +20,11 @@ use std::alloc::AllocError;
 use std::marker::Model;
 
 /// The tree has 1,024 nodes.
-#[derive(Clone, Copy, PartialEq, Eq)]
+#[derive(Clone, Copy)]
 pub struct TreeFull;
 
 /// Why a write to a file is refused.
-#[derive(Clone, Copy, PartialEq, Eq)]
+#[derive(Clone, Copy)]
 pub enum WriteFault {
     /// The contents of all files would pass 4,194,304 bytes.
     Space,
