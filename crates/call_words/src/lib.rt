@@ -3,6 +3,7 @@
 //! All of it is plain data in place, so that an event is copied and kept without memory.
 //! The calls so far are those on files, directories and paths, on modes, access lists and labels, and
 //! on what the caller is; each names its page of the manual. The errnos are those of intro(2).
+//! What is printed is put together in place too, by `push_bytes` and `push_number`.
 #![tactic(auto)]
 
 mod calls;

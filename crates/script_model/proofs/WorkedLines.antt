@@ -7,10 +7,14 @@ use Rattle.label_core.specs.declared.element.Element.TheVariants.{Low, Equal, Hi
 use Rattle.label_core.specs.Element.{dom}
 use Rattle.label_core.specs.CompSet.{numbers_in}
 use Rattle.label_core.specs.Reading.{after_word, number_at, compartments_within, compartments_at, grade_at, body_at, element_at, range_at, whole_element, whole_parts, whole_subject, element_of, subject_of}
+use Rattle.acl_core.specs.declared.entry.Entry.{Entry}
+use Rattle.acl_core.specs.declared.entry.Tag.{Tag}
 use Rattle.acl_core.specs.declared.entry.Tag.TheVariants.{User, Other}
+use Rattle.acl_core.specs.Perm.{perm_of}
 use Rattle.acl_core.specs.Reading.{read_of, list_at, entries_at, entry_at, tag_at, qualifier_at, numbered_at, number_at as list_number_at, digits_at, perm_at, more_at}
 use Rattle.call_words.specs.declared.calls.Access.TheVariants as access
 use Rattle.call_words.specs.declared.calls.Call.TheVariants as call
+use Rattle.call_words.specs.declared.calls.OpenFlags.{OpenFlags}
 use Rattle.call_words.specs.declared.events.Decision.TheVariants.{Answer, Taken}
 use Rattle.call_words.specs.declared.events.Event.{Event}
 use Rattle.call_words.specs.declared.events.Event.TheVariants as event
@@ -24,19 +28,26 @@ use Rattle.script_text.specs.Rights.{groups_of}
 use Rattle.script_text.specs.Calls.{path_call_of, rights_call_of, caller_call_of, call_of}
 use Rattle.script_text.specs.Reading.{events_of_line}
 
--- lines, and the events that each asks
+-- an entry with the permission of an octal digit
+abbrev entry : Tag → ℕ → Entry
+entry tag digit = record { tag = tag; perm = perm_of digit }
+
+abbrev all_flags : OpenFlags
+all_flags = record { create = true; exclusive = true; truncate = true; append = true; nonblock = true; on_exec = true }
+
+-- lines, and the events that each asks; modes are decimal here, so 438 is the mode 666
 abbrev asked : List (List ℕ × List Event)
 asked =
     (codes "0 open /dev/tty7 rw", event.Call 0 (call.Open (codes "/dev/tty7") access.ReadWrite no_flags 438) ∷ []) ∷
     (codes "31 open /tmp r", event.Call 31 (call.Open (codes "/tmp") access.Read no_flags 438) ∷ []) ∷
     (codes "0 open a w -", event.Call 0 (call.Open (codes "a") access.Write no_flags 438) ∷ []) ∷
-    (codes "0 open a rw cxtane 640", event.Call 0 (call.Open (codes "a") access.ReadWrite (record { create = true; exclusive = true; truncate = true; append = true; nonblock = true; on_exec = true }) 416) ∷ []) ∷
-    (codes "0 open a rw enatxc", event.Call 0 (call.Open (codes "a") access.ReadWrite (record { create = true; exclusive = true; truncate = true; append = true; nonblock = true; on_exec = true }) 438) ∷ []) ∷
-    (codes "0 open a r t", event.Call 0 (call.Open (codes "a") access.Read (record { create = false; exclusive = false; truncate = true; append = false; nonblock = false; on_exec = false }) 438) ∷ []) ∷
-    (codes "0 open a r a", event.Call 0 (call.Open (codes "a") access.Read (record { create = false; exclusive = false; truncate = false; append = true; nonblock = false; on_exec = false }) 438) ∷ []) ∷
-    (codes "0 open a rw x", event.Call 0 (call.Open (codes "a") access.ReadWrite (record { create = false; exclusive = true; truncate = false; append = false; nonblock = false; on_exec = false }) 438) ∷ []) ∷
+    (codes "0 open a rw cxtane 640", event.Call 0 (call.Open (codes "a") access.ReadWrite all_flags 416) ∷ []) ∷
+    (codes "0 open a rw enatxc", event.Call 0 (call.Open (codes "a") access.ReadWrite all_flags 438) ∷ []) ∷
+    (codes "0 open a r t", event.Call 0 (call.Open (codes "a") access.Read (record no_flags { truncate = true }) 438) ∷ []) ∷
+    (codes "0 open a r a", event.Call 0 (call.Open (codes "a") access.Read (record no_flags { append = true }) 438) ∷ []) ∷
+    (codes "0 open a rw x", event.Call 0 (call.Open (codes "a") access.ReadWrite (record no_flags { exclusive = true }) 438) ∷ []) ∷
     (codes "0 open a rw - 600", event.Call 0 (call.Open (codes "a") access.ReadWrite no_flags 384) ∷ []) ∷
-    (codes "0 open a rw n 0", event.Call 0 (call.Open (codes "a") access.ReadWrite (record { create = false; exclusive = false; truncate = false; append = false; nonblock = true; on_exec = false }) 0) ∷ []) ∷
+    (codes "0 open a rw n 0", event.Call 0 (call.Open (codes "a") access.ReadWrite (record no_flags { nonblock = true }) 0) ∷ []) ∷
     (codes "0 open a rw - 777", event.Call 0 (call.Open (codes "a") access.ReadWrite no_flags 511) ∷ []) ∷
     (codes "0 open % rw", event.Call 0 (call.Open [] access.ReadWrite no_flags 438) ∷ []) ∷
     (codes "0 open %25 r", event.Call 0 (call.Open (codes "%") access.Read no_flags 438) ∷ []) ∷
@@ -59,8 +70,8 @@ asked =
     (codes "0 info /dev/tty", event.Call 0 (call.Info (codes "/dev/tty")) ∷ []) ∷
     (codes "0 chmod a 644", event.Call 0 (call.Chmod (codes "a") 420) ∷ []) ∷
     (codes "0 chown a 0 4294967295", event.Call 0 (call.Chown (codes "a") 0 4294967295) ∷ []) ∷
-    (codes "0 setacl a access user:7:rwx,other::---,other::r--", event.Call 0 (call.SetAcl (codes "a") which.Access ((record { tag = (User 7); perm = record { read = true; write = true; exec = true } }) ∷ (record { tag = Other; perm = record { read = false; write = false; exec = false } }) ∷ (record { tag = Other; perm = record { read = true; write = false; exec = false } }) ∷ [])) ∷ []) ∷
-    (codes "0 setacl a default -", event.Call 0 (call.SetAcl (codes "a") which.Default ([])) ∷ []) ∷
+    (codes "0 setacl a access user:7:rwx,other::---,other::r--", event.Call 0 (call.SetAcl (codes "a") which.Access (entry (User 7) 7 ∷ entry Other 0 ∷ entry Other 4 ∷ [])) ∷ []) ∷
+    (codes "0 setacl a default -", event.Call 0 (call.SetAcl (codes "a") which.Default []) ∷ []) ∷
     (codes "0 getacl a default", event.Call 0 (call.GetAcl (codes "a") which.Default) ∷ []) ∷
     (codes "0 setlabel a mls/10:3+2", event.Call 0 (call.SetLabel (codes "a") (Grade 10 (2 ∷ 3 ∷ []))) ∷ []) ∷
     (codes "0 setlabel a mls/eq", event.Call 0 (call.SetLabel (codes "a") Equal) ∷ []) ∷

@@ -1,6 +1,6 @@
 -- The definitions of access lists on worked rows (draft POSIX.1e): what a list grants, how it goes with the nine bits of a mode, and
 -- which rule denies a caller the access to a node, where a label and a list stand together.
-use Rattle.std.proofs.Common.{◌≡◌, ℕ, [], ◌∷◌, List, refl}
+use Rattle.std.proofs.Common.{◌≡◌, ℕ, ◌+◌, ◌*◌, [], ◌∷◌, List, refl}
 use Rattle.std.specs.Prelude.{Bool, true, false, Option, Some, None, Err, map, replicate}
 use Rattle.label_core.specs.declared.element.Element.{Element}
 use Rattle.label_core.specs.declared.element.Element.TheVariants.{Low, Grade}
@@ -24,11 +24,21 @@ use Rattle.call_words.specs.declared.rules.Rule.TheVariants as rule
 abbrev entry : Tag → ℕ → Entry
 entry tag digit = record { tag = tag; perm = perm_of digit }
 
+-- the list of three octal digits
+abbrev digits_of : ℕ → ℕ → ℕ → List Entry
+digits_of user group other = entry UserObj user ∷ entry GroupObj group ∷ entry Other other ∷ []
+
+-- a mode of three octal digits
+abbrev mode : ℕ → ℕ → ℕ → ℕ
+mode user group other = 64 * user + 8 * group + other
+
 -- a caller's uid, gid and groups
 abbrev caller : ℕ → ℕ → List ℕ → Cred
 caller uid gid groups = record { uid = uid; gid = gid; groups = record { items = groups } }
 
--- whether a list of a file of user 7 and group 50 grants a caller the permission of an octal digit
+-- What lists of a file of user 7 and group 50 grant.
+
+-- whether a list grants a caller the permission of an octal digit
 abbrev is_granted : List Entry → Cred → ℕ → Bool
 is_granted list cred digit = grants list cred 7 50 (perm_of digit)
 
@@ -44,18 +54,18 @@ grouped = entry UserObj 7 ∷ entry GroupObj 0 ∷ entry (Group 20) 4 ∷ entry 
 abbrev of_masked : List (Cred × ℕ × Bool)
 of_masked =
     -- A named user is limited by the mask, and others' entry does not count.
-    (caller 1001 9 ([]), 4, true) ∷
-    (caller 1001 9 ([]), 2, false) ∷
+    (caller 1001 9 [], 4, true) ∷
+    (caller 1001 9 [], 2, false) ∷
     -- Groups do not widen a named user, nor does the file's group.
     (caller 1001 50 (20 ∷ []), 2, false) ∷
     -- The owner is not limited by the mask.
-    (caller 7 9 ([]), 6, true) ∷
-    (caller 7 9 ([]), 1, false) ∷
+    (caller 7 9 [], 6, true) ∷
+    (caller 7 9 [], 1, false) ∷
     -- The file's group is limited by the mask, through the gid or a supplementary group.
-    (caller 8 50 ([]), 4, true) ∷
+    (caller 8 50 [], 4, true) ∷
     (caller 8 9 (3 ∷ 50 ∷ []), 4, true) ∷
-    (caller 8 50 ([]), 1, false) ∷
-    (caller 8 9 ([]), 1, true) ∷
+    (caller 8 50 [], 1, false) ∷
+    (caller 8 9 [], 1, true) ∷
     []
 
 masked_grants : map (λ row. is_granted masked row.0 row.1) of_masked ≡ map (λ row. row.2) of_masked
@@ -70,142 +80,108 @@ of_grouped =
     (caller 1001 9 (20 ∷ 30 ∷ []), 2, true) ∷
     (caller 1001 9 (20 ∷ 30 ∷ []), 6, false) ∷
     (caller 1001 9 (20 ∷ []), 1, false) ∷
-    (caller 1001 9 ([]), 1, true) ∷
-    (caller 1001 30 ([]), 2, true) ∷
-    (caller 1001 50 ([]), 4, false) ∷
+    (caller 1001 9 [], 1, true) ∷
+    (caller 1001 30 [], 2, true) ∷
+    (caller 1001 50 [], 4, false) ∷
     (caller 1001 50 (20 ∷ []), 4, true) ∷
     (caller 7 9 (20 ∷ []), 1, true) ∷
-    (caller 1001 50 ([]), 0, true) ∷
+    (caller 1001 50 [], 0, true) ∷
     []
 
 grouped_grants : map (λ row. is_granted grouped row.0 row.1) of_grouped ≡ map (λ row. row.2) of_grouped
 unfolding grants
 grouped_grants = refl
 
-minimal_1 : minimal_list 416 ≡ (entry UserObj 6 ∷ entry GroupObj 4 ∷ entry Other 0 ∷ [])
+-- Lists and the nine bits of a mode. Where a list has a mask, the bits of the group are the mask's.
+
+abbrev with_user : ℕ → ℕ → ℕ → ℕ → List Entry
+with_user user group mask other = entry UserObj user ∷ entry (User 7) 7 ∷ entry GroupObj group ∷ entry Mask mask ∷ entry Other other ∷ []
+
+abbrev mask_executes : List Entry
+mask_executes = entry UserObj 6 ∷ entry GroupObj 4 ∷ entry Mask 1 ∷ entry Other 0 ∷ []
+
+list_of_a_mode : minimal_list (mode 6 4 0) ≡ digits_of 6 4 0
 unfolding minimal_list
-minimal_1 = refl
+list_of_a_mode = refl
 
-mode_2 : mode_of (entry UserObj 6 ∷ entry GroupObj 4 ∷ entry Other 0 ∷ []) ≡ 416
+modes_of_lists : map mode_of (digits_of 6 4 0 ∷ with_user 6 7 5 2 ∷ []) ≡ mode 6 4 0 ∷ mode 6 5 2 ∷ []
 unfolding mode_of
-mode_2 = refl
+modes_of_lists = refl
 
-executes_3 : has_exec (entry UserObj 6 ∷ entry GroupObj 4 ∷ entry Other 0 ∷ []) ≡ false
+lists_that_execute : map has_exec (digits_of 6 4 0 ∷ with_user 6 7 5 2 ∷ mask_executes ∷ []) ≡ false ∷ true ∷ true ∷ []
 unfolding has_exec
-executes_3 = refl
+lists_that_execute = refl
 
-changed_4 : with_mode (entry UserObj 6 ∷ entry GroupObj 4 ∷ entry Other 0 ∷ []) 449 ≡ (entry UserObj 7 ∷ entry GroupObj 0 ∷ entry Other 1 ∷ [])
+mode_is_put : with_mode (digits_of 6 4 0) (mode 7 0 1) ≡ digits_of 7 0 1
 unfolding with_mode
-changed_4 = refl
+mode_is_put = refl
 
-handed_down_5 : inherited (entry UserObj 6 ∷ entry GroupObj 4 ∷ entry Other 0 ∷ []) 278 ≡ (entry UserObj 4 ∷ entry GroupObj 0 ∷ entry Other 0 ∷ [])
-unfolding inherited
-handed_down_5 = refl
-
--- Where a list has a mask, the bits of the group are the mask's.
-mode_6 : mode_of (entry UserObj 6 ∷ entry (User 7) 7 ∷ entry GroupObj 7 ∷ entry Mask 5 ∷ entry Other 2 ∷ []) ≡ 426
-unfolding mode_of
-mode_6 = refl
-
-executes_7 : has_exec (entry UserObj 6 ∷ entry (User 7) 7 ∷ entry GroupObj 7 ∷ entry Mask 5 ∷ entry Other 2 ∷ []) ≡ true
-unfolding has_exec
-executes_7 = refl
-
-changed_8 : with_mode (entry UserObj 6 ∷ entry (User 7) 7 ∷ entry GroupObj 7 ∷ entry Mask 5 ∷ entry Other 2 ∷ []) 273 ≡ (entry UserObj 4 ∷ entry (User 7) 7 ∷ entry GroupObj 7 ∷ entry Mask 2 ∷ entry Other 1 ∷ [])
+mode_is_put_into_the_mask : with_mode (with_user 6 7 5 2) (mode 4 2 1) ≡ with_user 4 7 2 1
 unfolding with_mode
-changed_8 = refl
+mode_is_put_into_the_mask = refl
 
-handed_down_9 : inherited (entry UserObj 6 ∷ entry (User 7) 7 ∷ entry GroupObj 7 ∷ entry Mask 5 ∷ entry Other 2 ∷ []) 310 ≡ (entry UserObj 4 ∷ entry (User 7) 7 ∷ entry GroupObj 7 ∷ entry Mask 4 ∷ entry Other 2 ∷ [])
+list_is_handed_down : inherited (digits_of 6 4 0) (mode 4 2 6) ≡ digits_of 4 0 0
 unfolding inherited
-handed_down_9 = refl
+list_is_handed_down = refl
 
-executes_10 : has_exec (entry UserObj 6 ∷ entry GroupObj 4 ∷ entry Mask 1 ∷ entry Other 0 ∷ []) ≡ true
-unfolding has_exec
-executes_10 = refl
+list_with_a_mask_is_handed_down : inherited (with_user 6 7 5 2) (mode 4 6 6) ≡ with_user 4 7 4 2
+unfolding inherited
+list_with_a_mask_is_handed_down = refl
 
--- a list has at most 64 entries
+-- A list has at most 64 entries.
 
-too_many : acl_of (replicate 65 (entry UserObj 0)) ≡ Err TooMany
+entries_65_are_too_many : acl_of (replicate 65 (entry UserObj 0)) ≡ Err TooMany
 unfolding acl_of
-too_many = refl
+entries_65_are_too_many = refl
 
-most_of_one : acl_of (replicate 64 (entry UserObj 0)) ≡ Err Twice
+entries_64_are_looked_at : acl_of (replicate 64 (entry UserObj 0)) ≡ Err Twice
 unfolding acl_of
-most_of_one = refl
+entries_64_are_looked_at = refl
 
--- a node of user 7 and group 7
-abbrev node : Element → List Entry → Bool → Attrs
-node element list is_dir = record { element = element; owner = 7; group = 7; list = list; is_dir = is_dir }
+-- Which rule denies the access to a node of user 7 and group 7.
 
--- a list of three digits
-abbrev three : ℕ → ℕ → ℕ → List Entry
-three user group other = entry UserObj user ∷ entry GroupObj group ∷ entry Other other ∷ []
+abbrev file : Element → List Entry → Attrs
+file element list = record { element = element; owner = 7; group = 7; list = list; is_dir = false }
 
--- the uid 9, which is neither the owner nor in the group, or another
+abbrev dir : Element → List Entry → Attrs
+dir element list = record { element = element; owner = 7; group = 7; list = list; is_dir = true }
+
+-- a caller of a uid; 9 is neither the owner nor in the group
 abbrev by : ℕ → Cred
 by uid = caller uid 100 []
 
--- a subject of one element
+-- a subject with one element for its three parts
 abbrev at : Element → Parts
 at element = record { active = element; low = element; high = element }
 
--- Reading down and writing up pass.
-access_1 : refusal (by 9) (record { active = (Grade 10 (2 ∷ [])); low = (Grade 5 (2 ∷ [])); high = (Grade 20 (2 ∷ 3 ∷ [])) }) (node (Grade 5 (2 ∷ [])) (three 7 7 7) false) true false false ≡ None
-unfolding dom grants has_exec
-access_1 = refl
+-- a caller and its label, a node, what is wanted as an octal digit, and the rule that denies it
+abbrev wanted : List (Cred × Parts × Attrs × ℕ × Option Rule)
+wanted =
+    -- Reading down and writing up pass.
+    (by 9, record { active = (Grade 10 (2 ∷ [])); low = (Grade 5 (2 ∷ [])); high = (Grade 20 (2 ∷ 3 ∷ [])) }, file (Grade 5 (2 ∷ [])) (digits_of 7 7 7), 4, None) ∷
+    (by 9, record { active = (Grade 5 (2 ∷ [])); low = (Grade 5 (2 ∷ [])); high = (Grade 20 (2 ∷ 3 ∷ [])) }, file (Grade 10 (2 ∷ [])) (digits_of 7 7 7), 2, None) ∷
+    (by 9, record { active = (Grade 5 (2 ∷ [])); low = (Grade 5 (2 ∷ [])); high = (Grade 20 (2 ∷ 3 ∷ [])) }, file (Grade 5 (2 ∷ [])) (digits_of 7 7 7), 7, None) ∷
+    -- Writing down, reading up and executing what is above do not.
+    (by 9, at (Grade 10 (2 ∷ [])), file (Grade 5 (2 ∷ [])) (digits_of 7 7 7), 2, Some rule.LabelWrite) ∷
+    (by 9, at (Grade 5 (2 ∷ [])), file (Grade 10 (2 ∷ [])) (digits_of 7 7 7), 4, Some rule.LabelRead) ∷
+    (by 9, at (Grade 5 (2 ∷ [])), file (Grade 10 (2 ∷ [])) (digits_of 7 7 7), 1, Some rule.LabelRead) ∷
+    -- Neither dominates the other: the read is named before the write.
+    (by 9, at (Grade 5 (2 ∷ [])), file (Grade 5 (3 ∷ [])) (digits_of 7 7 7), 6, Some rule.LabelRead) ∷
+    (by 9, at Low, file Low (digits_of 7 0 0), 4, Some rule.List) ∷
+    (by 9, at Low, dir Low (digits_of 7 0 0), 1, Some rule.Search) ∷
+    -- A superuser is refused no more than to execute a file without any x.
+    (by 0, at Low, file Low (digits_of 7 0 0), 7, None) ∷
+    (by 0, at Low, file Low (digits_of 6 6 6), 1, Some rule.List) ∷
+    (by 0, at Low, dir Low (digits_of 6 6 6), 1, None) ∷
+    -- The label before the list, and also of a superuser.
+    (by 9, at (Grade 5 (2 ∷ [])), file (Grade 10 (2 ∷ [])) (digits_of 7 0 0), 4, Some rule.LabelRead) ∷
+    (by 0, at (Grade 5 (2 ∷ [])), file (Grade 10 (2 ∷ [])) (digits_of 7 0 0), 4, Some rule.LabelRead) ∷
+    []
 
-access_2 : refusal (by 9) (record { active = (Grade 5 (2 ∷ [])); low = (Grade 5 (2 ∷ [])); high = (Grade 20 (2 ∷ 3 ∷ [])) }) (node (Grade 10 (2 ∷ [])) (three 7 7 7) false) false true false ≡ None
-unfolding dom grants has_exec
-access_2 = refl
+-- what denies a wanted access
+abbrev denied : Cred → Parts → Attrs → ℕ → Option Rule
+denied cred label node digit = refusal cred label node (perm_of digit).read (perm_of digit).write (perm_of digit).exec
 
-access_3 : refusal (by 9) (record { active = (Grade 5 (2 ∷ [])); low = (Grade 5 (2 ∷ [])); high = (Grade 20 (2 ∷ 3 ∷ [])) }) (node (Grade 5 (2 ∷ [])) (three 7 7 7) false) true true true ≡ None
+each_access_is_denied_by_its_first_rule : map (λ row. denied row.0 row.1 row.2 row.3) wanted ≡ map (λ row. row.4) wanted
 unfolding dom grants has_exec
-access_3 = refl
-
--- Writing down, reading up and executing what is above do not.
-access_4 : refusal (by 9) (at (Grade 10 (2 ∷ []))) (node (Grade 5 (2 ∷ [])) (three 7 7 7) false) false true false ≡ Some rule.LabelWrite
-unfolding dom grants has_exec
-access_4 = refl
-
-access_5 : refusal (by 9) (at (Grade 5 (2 ∷ []))) (node (Grade 10 (2 ∷ [])) (three 7 7 7) false) true false false ≡ Some rule.LabelRead
-unfolding dom grants has_exec
-access_5 = refl
-
-access_6 : refusal (by 9) (at (Grade 5 (2 ∷ []))) (node (Grade 10 (2 ∷ [])) (three 7 7 7) false) false false true ≡ Some rule.LabelRead
-unfolding dom grants has_exec
-access_6 = refl
-
--- Neither dominates the other: the read is named before the write.
-access_7 : refusal (by 9) (at (Grade 5 (2 ∷ []))) (node (Grade 5 (3 ∷ [])) (three 7 7 7) false) true true false ≡ Some rule.LabelRead
-unfolding dom grants has_exec
-access_7 = refl
-
-access_8 : refusal (by 9) (at Low) (node Low (three 7 0 0) false) true false false ≡ Some rule.List
-unfolding dom grants has_exec
-access_8 = refl
-
-access_9 : refusal (by 9) (at Low) (node Low (three 7 0 0) true) false false true ≡ Some rule.Search
-unfolding dom grants has_exec
-access_9 = refl
-
--- A superuser is refused no more than to execute a file without any x.
-access_10 : refusal (by 0) (at Low) (node Low (three 7 0 0) false) true true true ≡ None
-unfolding dom grants has_exec
-access_10 = refl
-
-access_11 : refusal (by 0) (at Low) (node Low (three 6 6 6) false) false false true ≡ Some rule.List
-unfolding dom grants has_exec
-access_11 = refl
-
-access_12 : refusal (by 0) (at Low) (node Low (three 6 6 6) true) false false true ≡ None
-unfolding dom grants has_exec
-access_12 = refl
-
--- The label before the list, and also of a superuser.
-access_13 : refusal (by 9) (at (Grade 5 (2 ∷ []))) (node (Grade 10 (2 ∷ [])) (three 7 0 0) false) true false false ≡ Some rule.LabelRead
-unfolding dom grants has_exec
-access_13 = refl
-
-access_14 : refusal (by 0) (at (Grade 5 (2 ∷ []))) (node (Grade 10 (2 ∷ [])) (three 7 0 0) false) true false false ≡ Some rule.LabelRead
-unfolding dom grants has_exec
-access_14 = refl
+each_access_is_denied_by_its_first_rule = refl

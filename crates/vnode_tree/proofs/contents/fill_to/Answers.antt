@@ -1,0 +1,6 @@
+use Rattle.std.proofs.Common.{arith}
+use Rattle.std.proofs.lemmas.Grind.{common_steps}
+use Rattle.vnode_tree.proofs.contents.fill_to.Goals as goal
+
+pub returns-in_ok-resize-clause-ok : goal.returns-in_ok-resize-clause-ok
+returns-in_ok-resize-clause-ok c = grind (arith, common_steps)
