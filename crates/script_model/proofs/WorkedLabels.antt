@@ -1,7 +1,7 @@
 -- The definitions of labels on worked rows (mac_mls(4)): what is read and printed, where texts have their faults, which element
 -- dominates which, and what a subject may give and become.
 use Rattle.std.proofs.Common.{◌≡◌, ℕ, [], ◌∷◌, List, length, refl}
-use Rattle.std.specs.Prelude.{Bool, true, false, Result, Ok, Err, Option, Some, None, map, codes}
+use Rattle.std.specs.Prelude.{Bool, true, false, Result, Ok, Err, map, codes}
 use Rattle.std.specs.Fmt.{digits}
 use Rattle.std.specs.List.{range_with_len}
 use Rattle.label_core.specs.declared.element.Element.{Element}

@@ -1,9 +1,9 @@
 -- The definitions give the events of single lines, worked out by hand: every kind of call once, and each way for a line to be bad.
 use Rattle.std.proofs.Common.{◌≡◌, ℕ, zero, suc, [], ◌∷◌, ◌++◌, List, length, refl}
-use Rattle.std.specs.Prelude.{Option, Some, None, option_map, true, false, map, codes}
+use Rattle.std.specs.Prelude.{Option, Some, None, option_map, true, map, codes}
 use Rattle.std.specs.Fmt.{digits}
 use Rattle.hex.proofs.OnLiterals.{hex_on_literals}
-use Rattle.label_core.specs.declared.element.Element.TheVariants.{Low, Equal, High, Grade}
+use Rattle.label_core.specs.declared.element.Element.TheVariants.{Low, Equal, Grade}
 use Rattle.label_core.specs.Element.{dom}
 use Rattle.label_core.specs.CompSet.{numbers_in}
 use Rattle.label_core.specs.Reading.{after_word, number_at, compartments_within, compartments_at, grade_at, body_at, element_at, range_at, whole_element, whole_parts, whole_subject, element_of, subject_of}
