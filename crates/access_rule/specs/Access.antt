@@ -6,8 +6,8 @@ use Rattle.label_core.specs.declared.subject.Subject.{Subject}
 use Rattle.acl_core.specs.declared.perm.Perm.{Perm}
 use Rattle.acl_core.specs.declared.cred.Cred.{Cred}
 use Rattle.acl_core.specs.Deciding.{grants, has_exec}
-use Rattle.call_words.specs.declared.rules.Rule.{Rule}
-use Rattle.call_words.specs.declared.rules.Rule.TheVariants as rule
+use Rattle.sys_types.specs.declared.rules.Rule.{Rule}
+use Rattle.sys_types.specs.declared.rules.Rule.TheVariants as rule
 use Rattle.access_rule.specs.declared.Attrs.{Attrs}
 
 -- the uid 0 makes a superuser

@@ -5,9 +5,9 @@ use Rattle.label_core.specs.declared.subject.Subject.{Subject}
 use Rattle.acl_core.specs.declared.cred.Cred.{Cred}
 use Rattle.acl_core.specs.declared.entry.Entry.{Entry}
 use Rattle.acl_core.specs.Mode.{minimal_list, inherited}
-use Rattle.call_words.specs.declared.node.Kind.{Kind}
-use Rattle.call_words.specs.declared.rules.Rule.{Rule}
-use Rattle.call_words.specs.declared.rules.Rule.TheVariants as rule
+use Rattle.sys_types.specs.declared.node.Kind.{Kind}
+use Rattle.sys_types.specs.declared.rules.Rule.{Rule}
+use Rattle.sys_types.specs.declared.rules.Rule.TheVariants as rule
 use Rattle.access_rule.specs.Access.{first, line, refusal}
 use Rattle.access_rule.specs.Tree.{NodeRecord, is_dir}
 

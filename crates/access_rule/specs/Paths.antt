@@ -2,8 +2,8 @@
 use Rattle.std.specs.Prelude.{ℕ, Bool, true, false, not, ◌&&◌, ◌==◌, List, [], ◌∷◌, ◌++◌, length, nat_lt, Option, Some, None, is_some, if◌then◌else◌}
 use Rattle.label_core.specs.declared.subject.Subject.{Subject}
 use Rattle.acl_core.specs.declared.cred.Cred.{Cred}
-use Rattle.call_words.specs.declared.rules.Rule.{Rule}
-use Rattle.call_words.specs.declared.rules.Rule.TheVariants as rule
+use Rattle.sys_types.specs.declared.rules.Rule.{Rule}
+use Rattle.sys_types.specs.declared.rules.Rule.TheVariants as rule
 use Rattle.access_rule.specs.Access.{first, line, refusal}
 use Rattle.access_rule.specs.Tree.{NodeRecord, Tree, WalkEnd, walk, is_dir_record, is_parent, parent_of, steps, begin_at}
 use Rattle.access_rule.specs.Tree as tree

@@ -6,10 +6,10 @@ use Rattle.std.specs.Str.{byte}
 use Rattle.label_core.specs.declared.element.Element.{Element}
 use Rattle.label_core.specs.declared.element.Element.TheVariants as element
 use Rattle.acl_core.specs.Mode.{minimal_list}
-use Rattle.call_words.specs.declared.node.Kind.{Kind}
-use Rattle.call_words.specs.declared.node.Kind.TheVariants as kind
-use Rattle.call_words.specs.declared.image.Image.{Image}
-use Rattle.call_words.specs.Images.{images, image_name}
+use Rattle.sys_types.specs.declared.node.Kind.{Kind}
+use Rattle.sys_types.specs.declared.node.Kind.TheVariants as kind
+use Rattle.sys_types.specs.declared.image.Image.{Image}
+use Rattle.sys_types.specs.Images.{images, image_name}
 use Rattle.user_db.specs.declared.boot.Boot.{Boot}
 use Rattle.user_db.specs.declared.user.User.{User}
 use Rattle.access_rule.specs.declared.Attrs.{Attrs}

@@ -8,8 +8,8 @@ use Rattle.std.specs.Ordering.{nat_cmp, eq_by_cmp}
 use Rattle.std.specs.Cmp.Lexicographic.{slice_cmp}
 use Rattle.std.specs.FinMap.Entries.{find, put, where_key}
 use Rattle.acl_core.specs.declared.entry.Entry.{Entry}
-use Rattle.call_words.specs.declared.node.Kind.{Kind}
-use Rattle.call_words.specs.declared.node.Kind.TheVariants as kind
+use Rattle.sys_types.specs.declared.node.Kind.{Kind}
+use Rattle.sys_types.specs.declared.node.Kind.TheVariants as kind
 use Rattle.access_rule.specs.declared.Attrs.{Attrs}
 
 -- what a node is: its kind, what access to it depends on, the list that a directory gives to new nodes, and what a

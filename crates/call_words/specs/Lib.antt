@@ -1,5 +1,7 @@
-pub mod Rules
 pub mod Calls
 pub mod Events
-pub mod Images
 pub mod Groups
+pub mod Programs
+pub use Rattle.sys_types.specs.Rules
+pub use Rattle.sys_types.specs.Images
+pub use Rattle.sys_types.specs.Signals

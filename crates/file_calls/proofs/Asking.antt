@@ -1,10 +1,10 @@
 -- The rules that deny access to a node, as the tree has it at its path.
 use Rattle.std.proofs.Common.{◌≡◌, ℕ, Bool, true, false, List, Option, Some, None, option_map, refl, sym, ap, ◌∙◌}
-use Rattle.call_words.specs.declared.rules.Rule.{Rule}
+use Rattle.sys_types.specs.declared.rules.Rule.{Rule}
 use Rattle.access_rule.specs.Access.{refusal, allowed_unless}
 use Rattle.access_rule.specs.Paths.{access_rule}
 use Rattle.access_rule.specs.declared.Attrs.{Attrs}
-use Rattle.call_words.specs.declared.node.Kind.TheVariants as kind
+use Rattle.sys_types.specs.declared.node.Kind.TheVariants as kind
 use Rattle.access_rule.specs.Tree.{NodeRecord, at_path, nodes_from, is_dir, is_dir_record}
 use Rattle.machine_model.specs.PathCalls.{is_device, is_device_kind}
 use Rattle.machine_model.specs.Rows.{denied_by}

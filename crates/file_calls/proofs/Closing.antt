@@ -1,8 +1,8 @@
 -- A close of a file that is none of the line.
 use Rattle.std.proofs.Common.{◌≡◌, ℕ, Bool, true, false, List, Option, Some, None, option_map, refl, ap, ◌∙◌}
 use Rattle.std.specs.Prelude.{is_some, slice_set, option_and_then}
-use Rattle.call_words.specs.declared.events.Decision.TheVariants.{Answer}
-use Rattle.call_words.specs.declared.events.Reply.TheVariants.{Num}
+use Rattle.call_words.specs.declared.event.Decision.TheVariants.{Answer}
+use Rattle.call_words.specs.declared.event.Reply.TheVariants.{Num}
 use Rattle.machine_model.specs.View.{Queues}
 use Rattle.machine_model.specs.Rows.{Does}
 use Rattle.machine_model.specs.FileCalls.{file_at, close_row}

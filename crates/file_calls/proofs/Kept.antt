@@ -3,7 +3,7 @@ use Rattle.std.proofs.Common.{◌≡◌, ◌≢◌, inl, inr, ℕ, suc, Bool, tr
 use Rattle.std.specs.Prelude.{IsSome, is_some}
 use Rattle.std.proofs.lemmas.Bool.{cases_lt}
 use Rattle.std.proofs.lemmas.List.{get_or_past, length-set}
-use Rattle.call_words.specs.declared.node.Kind.{Kind}
+use Rattle.sys_types.specs.declared.node.Kind.{Kind}
 use Rattle.access_rule.specs.Tree.{NodeRecord, is_dir, is_dir_record, nodes_from, placed}
 use Rattle.machine_model.specs.View.{Queues}
 use Rattle.vnode_tree.specs.Nodes.{Named, IsLive, named_at, path_of, path_in, record_of, with_node, with_record}

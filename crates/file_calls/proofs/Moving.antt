@@ -2,11 +2,11 @@
 use Rattle.std.proofs.Common.{◌≡◌, ◌≢◌, ◌≤◌, ℕ, Bool, true, false, not, List, [], ◌∷◌, length, Option, Some, None, option_map, refl, sym, ap, ◌∙◌, le-ltb, eq-eqb, arith}
 use Rattle.std.proofs.lemmas.Bool.{ne_eqb}
 use Rattle.std.specs.Prelude.{option_and_then}
-use Rattle.call_words.specs.declared.text.TheConstants.{PIECE_BYTES}
-use Rattle.call_words.specs.declared.rules.Rule.TheVariants.{LabelRead, LabelWrite}
-use Rattle.call_words.specs.declared.events.Decision.TheVariants.{Answer}
-use Rattle.call_words.specs.declared.events.Reply.TheVariants.{Denied, Bytes, Num}
-use Rattle.call_words.specs.declared.events.Decision.{Decision}
+use Rattle.sys_types.specs.declared.limits.TheConstants.{PIECE_BYTES}
+use Rattle.sys_types.specs.declared.rules.Rule.TheVariants.{LabelRead, LabelWrite}
+use Rattle.call_words.specs.declared.event.Decision.TheVariants.{Answer}
+use Rattle.call_words.specs.declared.event.Reply.TheVariants.{Denied, Bytes, Num}
+use Rattle.call_words.specs.declared.event.Decision.{Decision}
 use Rattle.access_rule.specs.Tree.{NodeRecord}
 use Rattle.machine_model.specs.View.{OpenFile as SeenFile, Queues, View}
 use Rattle.machine_model.specs.Rows.{Row, bytes, number, Does}

@@ -2,15 +2,15 @@
 use Rattle.std.proofs.Common.{◌≡◌, ℕ, Bool, true, false, not, ◌&&◌, List, [], ◌∷◌, ◌++◌, Option, Some, None, option_map, refl, sym, ap, ◌∙◌, subst}
 use Rattle.std.specs.Prelude.{is_some, unwrap_or, slice_set, if◌then◌else◌}
 use Rattle.std.proofs.lemmas.List.{set-set, set-get_or}
-use Rattle.call_words.specs.declared.calls.Access.{Access}
-use Rattle.call_words.specs.declared.calls.OpenFlags.{OpenFlags}
-use Rattle.call_words.specs.declared.node.Kind.{Kind}
-use Rattle.call_words.specs.declared.node.Kind.TheVariants as kind
-use Rattle.call_words.specs.declared.rules.Rule.{Rule}
-use Rattle.call_words.specs.declared.rules.Rule.TheVariants.{FdRoom, Flags}
-use Rattle.call_words.specs.declared.events.Decision.{Decision}
-use Rattle.call_words.specs.declared.events.Decision.TheVariants.{Answer}
-use Rattle.call_words.specs.declared.events.Reply.TheVariants.{Denied, Num}
+use Rattle.call_words.specs.declared.open.Access.{Access}
+use Rattle.call_words.specs.declared.open.OpenFlags.{OpenFlags}
+use Rattle.sys_types.specs.declared.node.Kind.{Kind}
+use Rattle.sys_types.specs.declared.node.Kind.TheVariants as kind
+use Rattle.sys_types.specs.declared.rules.Rule.{Rule}
+use Rattle.sys_types.specs.declared.rules.Rule.TheVariants.{FdRoom, Flags}
+use Rattle.call_words.specs.declared.event.Decision.{Decision}
+use Rattle.call_words.specs.declared.event.Decision.TheVariants.{Answer}
+use Rattle.call_words.specs.declared.event.Reply.TheVariants.{Denied, Num}
 use Rattle.access_rule.specs.Tree.{NodeRecord, WalkEnd, found, absent, nodes_from, placed}
 use Rattle.access_rule.specs.NewNodes.{made_in}
 use Rattle.machine_model.specs.State.{File}

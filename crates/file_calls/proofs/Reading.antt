@@ -1,8 +1,8 @@
 -- A read of a file that is none of a terminal line.
 use Rattle.std.proofs.Common.{◌≡◌, ℕ, ◌+◌, ◌-◌, Bool, List, length, drop, min, Option, Some, None, option_map, refl, sym, ap, ◌∙◌, arith}
 use Rattle.std.proofs.lemmas.List.{length-take, length-drop}
-use Rattle.call_words.specs.declared.events.Decision.TheVariants.{Answer}
-use Rattle.call_words.specs.declared.events.Reply.TheVariants.{Bytes}
+use Rattle.call_words.specs.declared.event.Decision.TheVariants.{Answer}
+use Rattle.call_words.specs.declared.event.Reply.TheVariants.{Bytes}
 use Rattle.access_rule.specs.Contents.{bytes_at}
 use Rattle.access_rule.specs.Tree.{NodeRecord}
 use Rattle.machine_model.specs.View.{Queues}

@@ -4,7 +4,7 @@ use Rattle.std.specs.Prelude.{is_some, IsSome, ◌==◌}
 use Rattle.std.specs.List.{list_any}
 use Rattle.std.proofs.lemmas.Bool.Decides.{nat_tests}
 use Rattle.std.proofs.lemmas.Bool.{eqb-true, eq-eqb}
-use Rattle.call_words.specs.declared.rules.Rule.TheVariants.{NotEmpty, InUse}
+use Rattle.sys_types.specs.declared.rules.Rule.TheVariants.{NotEmpty, InUse}
 use Rattle.access_rule.specs.Listing.{is_empty_dir}
 use Rattle.access_rule.specs.Tree.{NodeRecord, is_dir, is_dir_record, parent_of}
 use Rattle.machine_model.specs.View.{View}

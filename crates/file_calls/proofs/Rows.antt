@@ -1,9 +1,9 @@
 -- How a call is shown to do what its row says: by the first of its lines that holds, or by its effects where none does.
 use Rattle.std.proofs.Common.{◌≡◌, ℕ, List, [], ◌∷◌, Option, Some, None, refl, sym, ap, ◌∙◌}
-use Rattle.call_words.specs.declared.rules.Rule.{Rule}
-use Rattle.call_words.specs.declared.events.Decision.{Decision}
-use Rattle.call_words.specs.declared.events.Decision.TheVariants.{Answer}
-use Rattle.call_words.specs.declared.events.Reply.TheVariants.{Denied}
+use Rattle.sys_types.specs.declared.rules.Rule.{Rule}
+use Rattle.call_words.specs.declared.event.Decision.{Decision}
+use Rattle.call_words.specs.declared.event.Decision.TheVariants.{Answer}
+use Rattle.call_words.specs.declared.event.Reply.TheVariants.{Denied}
 use Rattle.access_rule.specs.Tree.{WalkEnd}
 use Rattle.access_rule.specs.Paths.{path_at}
 use Rattle.machine_model.specs.View.{View}

@@ -1,7 +1,7 @@
 -- The rules of a path, part by part, are those of the directories that its walk passes and of its end.
 use Rattle.std.proofs.Common.{◌≡◌, ℕ, ◌+◌, ◌<◌, true, false, List, [], ◌∷◌, ◌++◌, length, map, drop, get_or, drop-cons, add-one, Option, Some, None, Ok, Err, refl, sym, ap, ◌∙◌}
 use Rattle.std.specs.Prelude.{is_some, nat_lt, ◌==◌, Result, IfOk, MatchResult}
-use Rattle.call_words.specs.declared.rules.Rule.{Rule}
+use Rattle.sys_types.specs.declared.rules.Rule.{Rule}
 use Rattle.access_rule.specs.Access.{first}
 use Rattle.vnode_tree.specs.Nodes.{Named, path_of, tree_of}
 use Rattle.access_rule.specs.Tree.{Tree, Walked, at_path, nodes_from, is_dir_record, is_parent, parent_of, steps, begin_at, walk_from, walk}

@@ -5,10 +5,10 @@ use Rattle.std.specs.declared.cmp.Ordering.TheVariants.{Less, Equal, Greater}
 use Rattle.std.specs.FinMap.Entries.{by_order, put}
 use Rattle.std.proofs.lemmas.Bool.{cases_lt}
 use Rattle.std.proofs.lemmas.List.Sums.{sum_by-cons}
-use Rattle.call_words.specs.declared.limits.TheConstants.{FILE_SPACE}
-use Rattle.call_words.specs.declared.rules.Rule.TheVariants.{FileSpace}
-use Rattle.call_words.specs.declared.events.Decision.TheVariants.{Answer}
-use Rattle.call_words.specs.declared.events.Reply.TheVariants.{Denied, Num}
+use Rattle.sys_types.specs.declared.limits.TheConstants.{FILE_SPACE}
+use Rattle.sys_types.specs.declared.rules.Rule.TheVariants.{FileSpace}
+use Rattle.call_words.specs.declared.event.Decision.TheVariants.{Answer}
+use Rattle.call_words.specs.declared.event.Reply.TheVariants.{Denied, Num}
 use Rattle.access_rule.specs.Contents.{with_written}
 use Rattle.access_rule.specs.Tree.{NodeRecord, Nodes, bytes_in, nodes_from, path_cmp, placed}
 use Rattle.machine_model.specs.View.{Queues}

@@ -1,8 +1,8 @@
 -- A node that a caller makes, and the rule that denies it, as calls see the tree.
 use Rattle.std.specs.Prelude.{ℕ, ◌==◌, List, length, Option, Some, None, Result, Ok, Err, option_map}
-use Rattle.call_words.specs.declared.limits.TheConstants.{NODES}
-use Rattle.call_words.specs.declared.node.Kind.{Kind}
-use Rattle.call_words.specs.declared.rules.Rule.{Rule}
+use Rattle.sys_types.specs.declared.limits.TheConstants.{NODES}
+use Rattle.sys_types.specs.declared.node.Kind.{Kind}
+use Rattle.sys_types.specs.declared.rules.Rule.{Rule}
 use Rattle.access_rule.specs.Tree.{NodeRecord, at_path, nodes_from}
 use Rattle.access_rule.specs.NewNodes.{made_in, make_rule_in}
 use Rattle.vnode_tree.specs.Nodes.{Named, path_of}

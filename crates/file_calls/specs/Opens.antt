@@ -1,8 +1,8 @@
 -- What an open makes, and its last line.
 use Rattle.std.specs.Prelude.{ℕ, false, ◌&&◌, List, [], Option, is_none, if◌then◌else◌}
-use Rattle.call_words.specs.declared.calls.Access.{Access}
-use Rattle.call_words.specs.declared.calls.OpenFlags.{OpenFlags}
-use Rattle.call_words.specs.declared.rules.Rule.TheVariants.{FdRoom}
+use Rattle.call_words.specs.declared.open.Access.{Access}
+use Rattle.call_words.specs.declared.open.OpenFlags.{OpenFlags}
+use Rattle.sys_types.specs.declared.rules.Rule.TheVariants.{FdRoom}
 use Rattle.call_words.specs.Calls.{can_read, can_write}
 use Rattle.machine_model.specs.View.{View}
 use Rattle.machine_model.specs.Rows.{Outcome, line, refused}

@@ -1,7 +1,7 @@
 -- What a path leads to, and the rule that denies it, as calls see it.
 use Rattle.std.specs.Prelude.{◌≡◌, List, ℕ, Option, Some, None, map}
-use Rattle.call_words.specs.declared.rules.Rule.{Rule}
-use Rattle.call_words.specs.declared.rules.Rule.TheVariants as rule
+use Rattle.sys_types.specs.declared.rules.Rule.{Rule}
+use Rattle.sys_types.specs.declared.rules.Rule.TheVariants as rule
 use Rattle.access_rule.specs.Access.{first}
 use Rattle.access_rule.specs.Tree.{Tree, WalkEnd, walk, at_path, nodes_from}
 use Rattle.access_rule.specs.Tree as tree

@@ -1,7 +1,7 @@
 -- What the machine sees of the tables that the calls on files are given, and what these tables keep.
 use Rattle.std.specs.Prelude.{◌≡◌, ℕ, Bool, true, List, map, Option, Some, None, option_map}
-use Rattle.call_words.specs.declared.node.Kind.{Kind}
-use Rattle.call_words.specs.declared.node.Kind.TheVariants as kind
+use Rattle.sys_types.specs.declared.node.Kind.{Kind}
+use Rattle.sys_types.specs.declared.node.Kind.TheVariants as kind
 use Rattle.access_rule.specs.Tree.{nodes_from, is_dir_record}
 use Rattle.machine_model.specs.State.{Caller as SeenCaller}
 use Rattle.machine_model.specs.View.{OpenFile as SeenFile, Queues, View}

@@ -1,7 +1,7 @@
 //! The descriptors of a process, each with its open file.
 ghost use Rattle.std.specs.Prelude.{◌≡◌, ◌<◌, map, is_some, option_map, slice_set, replicate, None, Some, MatchOption};
 ghost use Rattle.std.specs.List.{list_any};
-ghost use Rattle.call_words.specs.declared.limits.TheConstants.{DESCRIPTORS};
+ghost use Rattle.sys_types.specs.declared.limits.TheConstants.{DESCRIPTORS};
 ghost use Rattle.file_calls.specs.OpenFiles.{file_of, tty_of, is_live, any_live, lowest_free, is_of, killed, moved_to};
 
 use call_words::{DESCRIPTORS, Node};

@@ -1,6 +1,6 @@
 //! Bytes are read from open files and written to them: read(2), write(2).
 ghost use Rattle.std.specs.Prelude.{◌≡◌, ◌<◌, ◌≤◌, Bool, not, ◌&&◌, List, length, Option, Some, None, IfOk, OnOk, OnErr, MatchResult};
-ghost use Rattle.call_words.specs.declared.text.TheConstants.{PIECE_BYTES};
+ghost use Rattle.sys_types.specs.declared.limits.TheConstants.{PIECE_BYTES};
 ghost use Rattle.machine_model.specs.View.{Queues};
 ghost use Rattle.machine_model.specs.Rows.{Does, first};
 ghost use Rattle.machine_model.specs.Places.{dominates_node, node_dominates};

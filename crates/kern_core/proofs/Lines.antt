@@ -1,10 +1,10 @@
 -- What happens at the line, over the kernel's tables.
 use Rattle.std.proofs.Common.{◌≡◌, ℕ, Bool, true, false, cond, not, List, [], ◌∷◌, ◌++◌, length, take, drop, replicate, set, Option, Some, None, is_none, option_map, refl, sym, ap, ◌∙◌, leb}
 use Rattle.std.specs.Prelude.{◌&&◌, ◌==◌, is_some, unwrap_or, option_and_then, Result, Ok, Err, OnErr}
-use Rattle.call_words.specs.declared.events.Event.TheVariants as event
-use Rattle.call_words.specs.declared.events.Reply.TheVariants.{Num}
-use Rattle.call_words.specs.declared.events.Decision.TheVariants.{Answer, Taken, Noted}
-use Rattle.call_words.specs.declared.rules.Rule.TheVariants.{BadFd}
+use Rattle.call_words.specs.declared.event.Event.TheVariants as event
+use Rattle.call_words.specs.declared.event.Reply.TheVariants.{Num}
+use Rattle.call_words.specs.declared.event.Decision.TheVariants.{Answer, Taken, Noted}
+use Rattle.sys_types.specs.declared.rules.Rule.TheVariants.{BadFd}
 use Rattle.user_db.specs.declared.boot.Boot.{Boot}
 use Rattle.access_rule.specs.Tree.{nodes_from}
 use Rattle.access_rule.specs.Standard.{standard_tree}

@@ -1,9 +1,9 @@
 //! One step of the kernel: each call goes to the function of its name.
 ghost use Rattle.std.specs.Prelude.{◌≡◌, ℕ, ◌+◌, ◌≤◌, IfOk, OnOk, OnErr, None, true};
-ghost use Rattle.call_words.specs.declared.text.TheConstants.{PIECE_BYTES};
-ghost use Rattle.call_words.specs.declared.limits.TheConstants.{RAW_LINE};
+ghost use Rattle.sys_types.specs.declared.limits.TheConstants.{PIECE_BYTES};
+ghost use Rattle.sys_types.specs.declared.limits.TheConstants.{RAW_LINE};
 ghost use Rattle.call_words.specs.Calls.{HasFitMode};
-ghost use Rattle.call_words.specs.Events.{listed};
+ghost use Rattle.call_words.specs.Events.{wake_list};
 ghost use Rattle.user_db.specs.Boot.{IsBoot};
 ghost use Rattle.machine_model.specs.State.{State, boot};
 ghost use Rattle.machine_model.specs.View.{View, view};

@@ -1,7 +1,7 @@
 //! The queues of a terminal line with raw termios.
 ghost use Rattle.std.specs.Prelude.{◌≡◌, ℕ, ◌-◌, ◌<◌, ◌≤◌, ◌==◌, List, [], ◌∷◌, ◌++◌, length, take, drop, min, nat_le};
-ghost use Rattle.call_words.specs.declared.limits.TheConstants.{INPUT_PLACES, OUTPUT_BYTES};
-ghost use Rattle.call_words.specs.declared.text.TheConstants.{PIECE_BYTES};
+ghost use Rattle.sys_types.specs.declared.limits.TheConstants.{INPUT_PLACES, OUTPUT_BYTES};
+ghost use Rattle.sys_types.specs.declared.limits.TheConstants.{PIECE_BYTES};
 ghost use Rattle.machine_model.specs.View.{Queues};
 
 use arrayvec::ArrayVec;

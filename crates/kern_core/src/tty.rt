@@ -1,6 +1,6 @@
 //! What is done at terminal line 7: the calls through its open files, revoke(2), and what comes and goes at its other end.
 ghost use Rattle.std.specs.Prelude.{◌≡◌, ℕ, ◌≤◌, not, ◌&&◌, None, Some, true, IfOk, OnErr};
-ghost use Rattle.call_words.specs.declared.text.TheConstants.{PIECE_BYTES};
+ghost use Rattle.sys_types.specs.declared.limits.TheConstants.{PIECE_BYTES};
 ghost use Rattle.machine_model.specs.View.{OpenFile as SeenFile};
 ghost use Rattle.file_calls.specs.OpenFiles.{any_live};
 ghost use Rattle.machine_model.specs.Rows.{Does, first};

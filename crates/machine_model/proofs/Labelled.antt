@@ -10,16 +10,16 @@ use Rattle.access_rule.specs.NewNodes.{made_in}
 use Rattle.label_core.specs.Element.{dom}
 use Rattle.label_core.specs.declared.subject.Subject.{Subject}
 use Rattle.acl_core.specs.declared.cred.Cred.{Cred}
-use Rattle.call_words.specs.declared.calls.Access.{Access}
-use Rattle.call_words.specs.declared.calls.OpenFlags.{OpenFlags}
-use Rattle.call_words.specs.declared.calls.Call.{Call}
-use Rattle.call_words.specs.declared.calls.Call.TheVariants as call
-use Rattle.call_words.specs.declared.events.Event.{Event}
-use Rattle.call_words.specs.declared.events.Event.TheVariants as event
+use Rattle.call_words.specs.declared.open.Access.{Access}
+use Rattle.call_words.specs.declared.open.OpenFlags.{OpenFlags}
+use Rattle.call_words.specs.declared.call.Call.{Call}
+use Rattle.call_words.specs.declared.call.Call.TheVariants as call
+use Rattle.call_words.specs.declared.event.Event.{Event}
+use Rattle.call_words.specs.declared.event.Event.TheVariants as event
 use Rattle.call_words.specs.Calls.{can_read, can_write}
-use Rattle.call_words.specs.declared.node.Kind.TheVariants as kind
-use Rattle.call_words.specs.declared.rules.Rule.{Rule}
-use Rattle.call_words.specs.declared.rules.Rule.TheVariants.{Exists, IsDir, NoTty, NotReady, FdRoom, Flags, LabelRead, LabelWrite}
+use Rattle.sys_types.specs.declared.node.Kind.TheVariants as kind
+use Rattle.sys_types.specs.declared.rules.Rule.{Rule}
+use Rattle.sys_types.specs.declared.rules.Rule.TheVariants.{Exists, IsDir, NoTty, NotReady, FdRoom, Flags, LabelRead, LabelWrite}
 use Rattle.access_rule.specs.declared.Attrs.{Attrs}
 use Rattle.access_rule.specs.Access as rules
 use Rattle.access_rule.specs.Tree.{NodeRecord, is_dir_record, Nodes, WalkEnd, found, absent, missing, not_dir, name_long, path_long, path_cmp, at_path, placed}

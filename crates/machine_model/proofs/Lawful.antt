@@ -1,14 +1,14 @@
 -- The laws hold of every run.
 use Rattle.std.proofs.Common.{◌≡◌, ℕ, zero, suc, ◌+◌, ◌≤◌, inl, inr, Bool, true, false, not, List, [], ◌∷◌, length, map, get_or, Option, Some, None, refl, sym, ap, subst, ◌∙◌, arith, ne_eqb, eqb, ltb, is_none}
-use Rattle.call_words.specs.declared.events.Event.{Event}
-use Rattle.call_words.specs.declared.events.Event.TheVariants as event
-use Rattle.call_words.specs.declared.events.Reply.TheVariants.{Num, Bytes, Text, Denied, Gone}
-use Rattle.call_words.specs.declared.events.Decision.{Decision}
-use Rattle.call_words.specs.declared.events.Decision.TheVariants.{Answer, Taken, Noted}
-use Rattle.call_words.specs.declared.calls.Call.{Call}
-use Rattle.call_words.specs.declared.calls.Call.TheVariants as call
-use Rattle.call_words.specs.declared.rules.Rule.{Rule}
-use Rattle.call_words.specs.declared.rules.Rule.TheVariants.{Size, BadFd, FdMode, Dead, LabelRead, LabelWrite}
+use Rattle.call_words.specs.declared.event.Event.{Event}
+use Rattle.call_words.specs.declared.event.Event.TheVariants as event
+use Rattle.call_words.specs.declared.event.Reply.TheVariants.{Num, Bytes, Text, Denied, Gone}
+use Rattle.call_words.specs.declared.event.Decision.{Decision}
+use Rattle.call_words.specs.declared.event.Decision.TheVariants.{Answer, Taken, Noted}
+use Rattle.call_words.specs.declared.call.Call.{Call}
+use Rattle.call_words.specs.declared.call.Call.TheVariants as call
+use Rattle.sys_types.specs.declared.rules.Rule.{Rule}
+use Rattle.sys_types.specs.declared.rules.Rule.TheVariants.{Size, BadFd, FdMode, Dead, LabelRead, LabelWrite}
 use Rattle.user_db.specs.declared.boot.Boot.{Boot}
 use Rattle.machine_model.specs.State.{Tagged, State, boot}
 use Rattle.machine_model.specs.View.{OpenFile, View, look_at, view}

@@ -1,7 +1,7 @@
 -- Each open file was opened well by the open whose position names it.
 use Rattle.std.proofs.Common.{◌≡◌, ℕ, zero, suc, ◌+◌, ◌≤◌, true, false, cond, List, [], ◌∷◌, map, take, eqb, eqb-true, Option, Some, None, option_map, refl, sym, ap, subst, ◌∙◌, arith}
 use Rattle.user_db.specs.declared.boot.Boot.{Boot}
-use Rattle.call_words.specs.declared.events.Event.{Event}
+use Rattle.call_words.specs.declared.event.Event.{Event}
 use Rattle.machine_model.specs.State.{File, State, boot}
 use Rattle.machine_model.specs.View.{find, view}
 use Rattle.machine_model.specs.Effects.{Effect, made, dropped, moved, killed, emptied, came, given, put, sent, at, became, moved_file, moved_files, with_offset, opened, tag, tag_all, change_all}

@@ -1,8 +1,8 @@
 -- The machine, seen without names and tags, steps as the machine does.
 use Rattle.std.proofs.Common.{◌≡◌, ℕ, zero, suc, ◌+◌, ◌≤◌, ◌<◌, true, false, cond, List, [], ◌∷◌, ◌++◌, map, set, get_or, eqb, eq-eqb, Option, Some, None, option_map, refl, sym, ap, subst, ◌∙◌, arith, lt-ltb, le-ltb, ne_eqb}
 use Rattle.std.proofs.lemmas.List.{map-set, map-append, drop-map}
-use Rattle.call_words.specs.declared.events.Event.{Event}
-use Rattle.call_words.specs.declared.events.Decision.{Decision}
+use Rattle.call_words.specs.declared.event.Event.{Event}
+use Rattle.call_words.specs.declared.event.Decision.{Decision}
 use Rattle.machine_model.specs.State.{Tagged, Line, File, State}
 use Rattle.machine_model.specs.View.{View, find, seen_as, look, look_at, bytes_of, view}
 use Rattle.machine_model.specs.Effects.{Effect, made, dropped, moved, killed, emptied, came, given, put, sent, at, became, tagged, moved_file, moved_files, with_offset, tag, tag_all, opened, moved_to, killed_file, change, change_all}

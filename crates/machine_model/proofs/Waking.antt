@@ -3,7 +3,7 @@ use Rattle.std.proofs.Common.{◌≡◌, ℕ, ◌∷◌, [], true, false, not, L
 use Rattle.std.proofs.lemmas.Bool.Decides.{nat_tests}
 use Rattle.std.proofs.lemmas.List.{length-take}
 use Rattle.std.specs.Prelude.{◌&&◌, ◌==◌}
-use Rattle.call_words.specs.declared.events.Event.TheVariants as event
+use Rattle.call_words.specs.declared.event.Event.TheVariants as event
 use Rattle.machine_model.specs.View.{View}
 use Rattle.machine_model.specs.Rows.{line, early, taken, first, decided}
 use Rattle.machine_model.specs.FileCalls.{any_live}

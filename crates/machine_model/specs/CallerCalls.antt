@@ -6,7 +6,7 @@ use Rattle.label_core.specs.declared.subject.Subject.{Subject}
 use Rattle.label_core.specs.Subject.{may_become}
 use Rattle.label_core.specs.Text.{subject_text}
 use Rattle.acl_core.specs.declared.cred.Cred.{Cred}
-use Rattle.call_words.specs.declared.rules.Rule.TheVariants.{Super, Proclabel}
+use Rattle.sys_types.specs.declared.rules.Rule.TheVariants.{Super, Proclabel}
 use Rattle.access_rule.specs.Access.{is_superuser}
 use Rattle.call_words.specs.Groups.{groups_word}
 use Rattle.machine_model.specs.State.{Caller}

@@ -1,13 +1,13 @@
 -- The rows of the file calls: open(2), close(2), read(2), write(2).
 use Rattle.std.specs.Prelude.{ℕ, ◌+◌, ◌-◌, Bool, true, false, not, ◌&&◌, ◌||◌, ◌==◌, List, [], ◌∷◌, ◌++◌, length, take, min, Option, Some, None, is_some, nat_lt, nat_le, if◌then◌else◌, slice_index_or, slice_set, option_map, position, unwrap_or, is_none}
 use Rattle.std.specs.List.{list_any}
-use Rattle.call_words.specs.declared.limits.TheConstants.{OUTPUT_BYTES, FILE_SPACE, RAW_LINE}
-use Rattle.call_words.specs.declared.text.TheConstants.{PIECE_BYTES}
-use Rattle.call_words.specs.declared.calls.Access.{Access}
-use Rattle.call_words.specs.declared.calls.OpenFlags.{OpenFlags}
-use Rattle.call_words.specs.declared.node.Kind.{Kind}
-use Rattle.call_words.specs.declared.node.Kind.TheVariants as kind
-use Rattle.call_words.specs.declared.rules.Rule.TheVariants.{Size, BadFd, FdMode, Dead, NotReady, FdRoom, Flags, Exists, NoEntry, IsDir, NoTty, LabelRead, LabelWrite, FileSpace}
+use Rattle.sys_types.specs.declared.limits.TheConstants.{OUTPUT_BYTES, FILE_SPACE, RAW_LINE}
+use Rattle.sys_types.specs.declared.limits.TheConstants.{PIECE_BYTES}
+use Rattle.call_words.specs.declared.open.Access.{Access}
+use Rattle.call_words.specs.declared.open.OpenFlags.{OpenFlags}
+use Rattle.sys_types.specs.declared.node.Kind.{Kind}
+use Rattle.sys_types.specs.declared.node.Kind.TheVariants as kind
+use Rattle.sys_types.specs.declared.rules.Rule.TheVariants.{Size, BadFd, FdMode, Dead, NotReady, FdRoom, Flags, Exists, NoEntry, IsDir, NoTty, LabelRead, LabelWrite, FileSpace}
 use Rattle.call_words.specs.Calls.{can_read, can_write}
 use Rattle.access_rule.specs.Tree.{NodeRecord, WalkEnd, found, absent, missing, not_dir, name_long, path_long, is_file, is_dir_record, placed, bytes_in}
 use Rattle.access_rule.specs.Contents.{bytes_at, with_contents, with_written}

@@ -1,13 +1,13 @@
 -- Laws of a run: of each of its events, with the state before it and its position.
 use Rattle.std.specs.Prelude.{◌≡◌, ℕ, Bool, true, false, not, ◌==◌, ◌⊎◌, List, [], length, slice_index_or, Some, None}
 use Rattle.std.specs.List.{list_any}
-use Rattle.call_words.specs.declared.rules.Rule.{Rule}
-use Rattle.call_words.specs.declared.rules.Rule.TheVariants.{Size, FdMode, Dead}
-use Rattle.call_words.specs.declared.events.Event.{Event}
-use Rattle.call_words.specs.declared.events.Event.TheVariants as event
-use Rattle.call_words.specs.declared.events.Reply.TheVariants.{Num, Bytes, Text, Denied, Gone}
-use Rattle.call_words.specs.declared.events.Decision.{Decision}
-use Rattle.call_words.specs.declared.events.Decision.TheVariants.{Answer, Taken, Noted}
+use Rattle.sys_types.specs.declared.rules.Rule.{Rule}
+use Rattle.sys_types.specs.declared.rules.Rule.TheVariants.{Size, FdMode, Dead}
+use Rattle.call_words.specs.declared.event.Event.{Event}
+use Rattle.call_words.specs.declared.event.Event.TheVariants as event
+use Rattle.call_words.specs.declared.event.Reply.TheVariants.{Num, Bytes, Text, Denied, Gone}
+use Rattle.call_words.specs.declared.event.Decision.{Decision}
+use Rattle.call_words.specs.declared.event.Decision.TheVariants.{Answer, Taken, Noted}
 use Rattle.user_db.specs.declared.boot.Boot.{Boot}
 use Rattle.machine_model.specs.State.{Tagged, File, State, boot}
 use Rattle.machine_model.specs.View.{OpenFile, View, view, find, look_at}

@@ -1,7 +1,7 @@
 -- The rows of revoke(2) and of what happens at a line.
 use Rattle.std.specs.Prelude.{ℕ, not, List, [], ◌∷◌, length, take, nat_le, is_none}
-use Rattle.call_words.specs.declared.limits.TheConstants.{INPUT_PLACES}
-use Rattle.call_words.specs.declared.rules.Rule.TheVariants.{NoRevoke, LabelWrite, Owner}
+use Rattle.sys_types.specs.declared.limits.TheConstants.{INPUT_PLACES}
+use Rattle.sys_types.specs.declared.rules.Rule.TheVariants.{NoRevoke, LabelWrite, Owner}
 use Rattle.machine_model.specs.View.{View}
 use Rattle.machine_model.specs.Effects.{killed, emptied, came, sent}
 use Rattle.machine_model.specs.Rows.{Row, line, refused, early, number, taken, noted}

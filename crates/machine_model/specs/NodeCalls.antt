@@ -9,9 +9,9 @@ use Rattle.acl_core.specs.declared.entry.Entry.{Entry}
 use Rattle.acl_core.specs.Acl.{acl_of}
 use Rattle.acl_core.specs.Mode.{with_mode}
 use Rattle.acl_core.specs.Text.{list_text}
-use Rattle.call_words.specs.declared.lists.WhichList.{WhichList}
-use Rattle.call_words.specs.declared.lists.WhichList.TheVariants.{Access, Default}
-use Rattle.call_words.specs.declared.rules.Rule.TheVariants.{LabelRead, LabelWrite, Owner, Super, NotDir, AclBad, Relabel}
+use Rattle.call_words.specs.declared.attr.WhichList.{WhichList}
+use Rattle.call_words.specs.declared.attr.WhichList.TheVariants.{Access, Default}
+use Rattle.sys_types.specs.declared.rules.Rule.TheVariants.{LabelRead, LabelWrite, Owner, Super, NotDir, AclBad, Relabel}
 use Rattle.access_rule.specs.Access.{is_superuser}
 use Rattle.access_rule.specs.Tree.{NodeRecord, is_dir_record}
 use Rattle.machine_model.specs.View.{View}

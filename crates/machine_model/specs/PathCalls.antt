@@ -5,9 +5,9 @@ use Rattle.std.specs.Ordering.{eq_by_cmp}
 use Rattle.std.specs.Str.{byte}
 use Rattle.std.specs.Fmt.{decimal}
 use Rattle.acl_core.specs.Mode.{mode_of}
-use Rattle.call_words.specs.declared.node.Kind.{Kind}
-use Rattle.call_words.specs.declared.node.Kind.TheVariants as kind
-use Rattle.call_words.specs.declared.rules.Rule.TheVariants.{Exists, NotDir, IsDir, InUse, LabelRead, LabelWrite, NotEmpty, Device}
+use Rattle.sys_types.specs.declared.node.Kind.{Kind}
+use Rattle.sys_types.specs.declared.node.Kind.TheVariants as kind
+use Rattle.sys_types.specs.declared.rules.Rule.TheVariants.{Exists, NotDir, IsDir, InUse, LabelRead, LabelWrite, NotEmpty, Device}
 use Rattle.access_rule.specs.Tree.{NodeRecord, WalkEnd, found, absent, missing, not_dir, name_long, path_long, is_dir_record, is_file, parent_of, path_cmp}
 use Rattle.access_rule.specs.Listing.{names_under, is_empty_dir, names_text}
 use Rattle.machine_model.specs.View.{OpenFile, View}

@@ -1,8 +1,8 @@
 -- What paths lead to, as the process that asks sees it.
 use Rattle.std.specs.Prelude.{ℕ, Bool, true, false, not, ◌&&◌, ◌==◌, List, [], ◌∷◌, length, Option, Some, None}
 use Rattle.label_core.specs.Element.{dom}
-use Rattle.call_words.specs.declared.limits.TheConstants.{NODES}
-use Rattle.call_words.specs.declared.node.Kind.{Kind}
+use Rattle.sys_types.specs.declared.limits.TheConstants.{NODES}
+use Rattle.sys_types.specs.declared.node.Kind.{Kind}
 use Rattle.access_rule.specs.Access.{is_superuser}
 use Rattle.access_rule.specs.Tree.{NodeRecord, WalkEnd, walk, at_path}
 use Rattle.access_rule.specs.Paths.{path_rule, node_rule, path_at, access_rule}

@@ -3,8 +3,8 @@ use Rattle.std.specs.Prelude.{ℕ, ◌+◌, List, [], ◌∷◌, take}
 use Rattle.machine_model.specs.State.{State, boot}
 use Rattle.machine_model.specs.Step.{step}
 use Rattle.user_db.specs.declared.boot.Boot.{Boot}
-use Rattle.call_words.specs.declared.events.Event.{Event}
-use Rattle.call_words.specs.declared.events.Decision.{Decision}
+use Rattle.call_words.specs.declared.event.Event.{Event}
+use Rattle.call_words.specs.declared.event.Decision.{Decision}
 
 -- the decisions on a list of events, of which the first is at position p
 abbrev pub decisions_from : State → ℕ → List Event → List Decision

@@ -3,7 +3,7 @@ use Rattle.std.specs.Prelude.{ℕ, Bool, List, [], Option, None, replicate}
 use Rattle.label_core.specs.declared.element.Element.TheVariants.{Low, Equal, High}
 use Rattle.label_core.specs.declared.subject.Subject.{Subject}
 use Rattle.acl_core.specs.declared.cred.Cred.{Cred}
-use Rattle.call_words.specs.declared.limits.TheConstants.{DESCRIPTORS}
+use Rattle.sys_types.specs.declared.limits.TheConstants.{DESCRIPTORS}
 use Rattle.user_db.specs.declared.boot.Boot.{Boot}
 use Rattle.access_rule.specs.Tree.{Nodes}
 use Rattle.access_rule.specs.Standard.{standard_tree}

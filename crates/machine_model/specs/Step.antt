@@ -1,14 +1,14 @@
 -- A step of the machine.
 use Rattle.std.specs.Prelude.{ℕ, Option, is_none, Bool, true, false, not, ◌==◌, List, [], ◌∷◌, length, if◌then◌else◌, codes, IsTrue}
 use Rattle.std.specs.Str.{bytes_eq}
-use Rattle.call_words.specs.declared.limits.TheConstants.{RAW_LINE}
-use Rattle.call_words.specs.declared.text.TheConstants.{PIECE_BYTES}
-use Rattle.call_words.specs.declared.calls.Call.{Call}
-use Rattle.call_words.specs.declared.calls.Call.TheVariants as call
-use Rattle.call_words.specs.declared.events.Event.{Event}
-use Rattle.call_words.specs.declared.events.Event.TheVariants as event
-use Rattle.call_words.specs.declared.events.Decision.{Decision}
-use Rattle.call_words.specs.declared.events.Decision.TheVariants.{Answer, Taken, Noted}
+use Rattle.sys_types.specs.declared.limits.TheConstants.{RAW_LINE}
+use Rattle.sys_types.specs.declared.limits.TheConstants.{PIECE_BYTES}
+use Rattle.call_words.specs.declared.call.Call.{Call}
+use Rattle.call_words.specs.declared.call.Call.TheVariants as call
+use Rattle.call_words.specs.declared.event.Event.{Event}
+use Rattle.call_words.specs.declared.event.Event.TheVariants as event
+use Rattle.call_words.specs.declared.event.Decision.{Decision}
+use Rattle.call_words.specs.declared.event.Decision.TheVariants.{Answer, Taken, Noted}
 use Rattle.call_words.specs.Events.{MayBeUsed, WakeList}
 use Rattle.machine_model.specs.State.{State}
 use Rattle.machine_model.specs.View.{OpenFile, View, view}

@@ -1,7 +1,7 @@
 -- What calls do with the bytes of open files.
 use Rattle.std.specs.Prelude.{ℕ}
-use Rattle.call_words.specs.declared.calls.Call.{Call}
-use Rattle.call_words.specs.declared.calls.Call.TheVariants as call
+use Rattle.call_words.specs.declared.call.Call.{Call}
+use Rattle.call_words.specs.declared.call.Call.TheVariants as call
 
 -- what a call does with bytes: it reads or writes them through a number, or it moves none
 pub data Use : Type 0 where

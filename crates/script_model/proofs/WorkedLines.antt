@@ -12,14 +12,14 @@ use Rattle.acl_core.specs.declared.entry.Tag.{Tag}
 use Rattle.acl_core.specs.declared.entry.Tag.TheVariants.{User, Other}
 use Rattle.acl_core.specs.Perm.{perm_of}
 use Rattle.acl_core.specs.Reading.{read_of, list_at, entries_at, entry_at, tag_at, qualifier_at, numbered_at, number_at as list_number_at, digits_at, perm_at, more_at}
-use Rattle.call_words.specs.declared.calls.Access.TheVariants as access
-use Rattle.call_words.specs.declared.calls.Call.TheVariants as call
-use Rattle.call_words.specs.declared.calls.OpenFlags.{OpenFlags}
-use Rattle.call_words.specs.declared.events.Decision.TheVariants.{Answer, Taken}
-use Rattle.call_words.specs.declared.events.Event.{Event}
-use Rattle.call_words.specs.declared.events.Event.TheVariants as event
-use Rattle.call_words.specs.declared.events.Reply.TheVariants.{Num, Text}
-use Rattle.call_words.specs.declared.lists.WhichList.TheVariants as which
+use Rattle.call_words.specs.declared.open.Access.TheVariants as access
+use Rattle.call_words.specs.declared.call.Call.TheVariants as call
+use Rattle.call_words.specs.declared.open.OpenFlags.{OpenFlags}
+use Rattle.call_words.specs.declared.event.Decision.TheVariants.{Answer, Taken}
+use Rattle.call_words.specs.declared.event.Event.{Event}
+use Rattle.call_words.specs.declared.event.Event.TheVariants as event
+use Rattle.call_words.specs.declared.event.Reply.TheVariants.{Num, Text}
+use Rattle.call_words.specs.declared.attr.WhichList.TheVariants as which
 use Rattle.script_text.specs.Words.{parted, number_below, bytes_of_word, hex_word}
 use Rattle.script_text.specs.Answers.{wake_text, answer_line}
 use Rattle.script_text.specs.Paths.{unescaped, path_of, text_word}

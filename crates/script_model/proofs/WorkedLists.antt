@@ -17,8 +17,8 @@ use Rattle.acl_core.specs.Deciding.{grants, has_exec}
 use Rattle.acl_core.specs.Mode.{minimal_list, mode_of, with_mode, inherited}
 use Rattle.access_rule.specs.declared.Attrs.{Attrs}
 use Rattle.access_rule.specs.Access.{refusal}
-use Rattle.call_words.specs.declared.rules.Rule.{Rule}
-use Rattle.call_words.specs.declared.rules.Rule.TheVariants as rule
+use Rattle.sys_types.specs.declared.rules.Rule.{Rule}
+use Rattle.sys_types.specs.declared.rules.Rule.TheVariants as rule
 
 -- an entry with the permission of an octal digit
 abbrev entry : Tag → ℕ → Entry

@@ -1,7 +1,7 @@
 -- What a script asks: the events of its lines up to the first bad one.
 use Rattle.std.specs.Prelude.{ℕ, ◌+◌, List, [], ◌∷◌, ◌++◌, Option, Some, None, option_and_then}
 use Rattle.std.specs.List.{list_all}
-use Rattle.call_words.specs.declared.events.Event.{Event}
+use Rattle.call_words.specs.declared.event.Event.{Event}
 use Rattle.script_text.specs.Words.{only_if}
 use Rattle.script_text.specs.Reading.{events_of_line}
 use Rattle.user_db.specs.Lines.{lines}

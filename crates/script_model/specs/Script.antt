@@ -1,8 +1,8 @@
 -- What a script writes, and the status with which it ends.
 use Rattle.std.specs.Prelude.{ℕ, ◌+◌, List, [], ◌∷◌, ◌++◌, Option, Some, None, Result, Ok, Err, nat_lt, if◌then◌else◌, length, map, take, codes}
 use Rattle.std.specs.Fmt.{decimal}
-use Rattle.call_words.specs.declared.limits.TheConstants.{TRAIL_EVENTS}
-use Rattle.call_words.specs.declared.events.Event.{Event}
+use Rattle.sys_types.specs.declared.limits.TheConstants.{TRAIL_EVENTS}
+use Rattle.call_words.specs.declared.event.Event.{Event}
 use Rattle.machine_model.specs.State.{State, boot}
 use Rattle.machine_model.specs.View.{View, view}
 use Rattle.machine_model.specs.Step.{step, wakes, may_want_memory}

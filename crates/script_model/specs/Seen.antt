@@ -1,6 +1,6 @@
 -- A run by what calls see alone, from any moment on.
 use Rattle.std.specs.Prelude.{ℕ, List, [], ◌∷◌, ◌++◌, map, take}
-use Rattle.call_words.specs.declared.events.Event.{Event}
+use Rattle.call_words.specs.declared.event.Event.{Event}
 use Rattle.machine_model.specs.View.{View}
 use Rattle.machine_model.specs.Step.{view_after, answer_to, wakes}
 use Rattle.script_model.specs.Reading.{Asked}

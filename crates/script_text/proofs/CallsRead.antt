@@ -1,8 +1,8 @@
 -- A call that is said by the grammar is read.
 use Rattle.std.proofs.Common.{◌≡◌, ℕ, List, [], ◌∷◌, Some, refl}
 use Rattle.std.specs.Prelude.{codes}
-use Rattle.call_words.specs.declared.calls.Call.{Call}
-use Rattle.call_words.specs.declared.calls.Call.TheVariants as call
+use Rattle.call_words.specs.declared.call.Call.{Call}
+use Rattle.call_words.specs.declared.call.Call.TheVariants as call
 use Rattle.script_text.specs.Calls.{caller_call_of, rights_call_of, path_call_of, call_of}
 use Rattle.script_text.specs.Grammar.{SayAll, call_fields, path, mode, fd, max, from, bytes, id, groups, which, entries, element, subject}
 use Rattle.script_text.proofs.Fields.{no_field, one_field, two_fields, three_fields}

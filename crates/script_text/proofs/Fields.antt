@@ -1,6 +1,6 @@
 -- Calls of one word, of two and of three, and the words that say their fields.
 use Rattle.std.proofs.Common.{◌≡◌, ℕ, List, [], ◌∷◌, Option, Some, option_map, option_and_then, ap, subst}
-use Rattle.call_words.specs.declared.calls.Call.{Call}
+use Rattle.call_words.specs.declared.call.Call.{Call}
 use Rattle.script_text.specs.Calls.{with_one, with_two, with_three}
 use Rattle.script_text.specs.Grammar.{Field, Says, IsUnsaid, SayAll, call_fields, name}
 use Rattle.script_text.proofs.Chosen.{stepped, mapped}

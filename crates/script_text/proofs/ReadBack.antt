@@ -9,13 +9,13 @@ use Rattle.std.specs.Str.{bytes_eq}
 use Rattle.std.proofs.lemmas.Bool.{le-ltb, ne_eqb, eqb-true, false_from_ne_true, agree_below_at}
 use Rattle.hex.specs.Hex.{IsBytes, lower_digits, encode_with, encode_lower, decode_of}
 use Rattle.hex.proofs.HexLemmas.{decode_of-encode_lower, length-encode_with}
-use Rattle.call_words.specs.declared.calls.Access.{Access}
-use Rattle.call_words.specs.declared.calls.Access.TheVariants as access
-use Rattle.call_words.specs.declared.calls.OpenFlags.{OpenFlags}
+use Rattle.call_words.specs.declared.open.Access.{Access}
+use Rattle.call_words.specs.declared.open.Access.TheVariants as access
+use Rattle.call_words.specs.declared.open.OpenFlags.{OpenFlags}
 use Rattle.acl_core.proofs.Whole.{read_again}
 use Rattle.label_core.proofs.TextLaws.{element_of-element_text, subject_of-subject_text}
-use Rattle.call_words.specs.declared.lists.WhichList.{WhichList}
-use Rattle.call_words.specs.declared.lists.WhichList.TheVariants as which
+use Rattle.call_words.specs.declared.attr.WhichList.{WhichList}
+use Rattle.call_words.specs.declared.attr.WhichList.TheVariants as which
 use Rattle.script_text.specs.Rights.{which_of, which_word}
 use Rattle.script_text.specs.Words.{number_below, bytes_of_word, hex_word}
 use Rattle.script_text.specs.Paths.{is_plain, pair_value, escaped_byte, path_of, path_word}

@@ -1,13 +1,13 @@
 -- The answers to events, as lines.
 use Rattle.std.specs.Prelude.{ℕ, ◌==◌, List, [], ◌++◌, length, flat_map, if◌then◌else◌, codes}
 use Rattle.std.specs.Fmt.{decimal}
-use Rattle.call_words.specs.Rules.{errno_of, rule_word, errno_word}
-use Rattle.call_words.specs.declared.events.Event.{Event}
-use Rattle.call_words.specs.declared.events.Event.TheVariants as event
-use Rattle.call_words.specs.declared.events.Reply.{Reply}
-use Rattle.call_words.specs.declared.events.Reply.TheVariants.{Num, Bytes, Text, Denied, Gone}
-use Rattle.call_words.specs.declared.events.Decision.{Decision}
-use Rattle.call_words.specs.declared.events.Decision.TheVariants.{Answer, Taken, Noted}
+use Rattle.sys_types.specs.Rules.{errno_of, rule_word, errno_word}
+use Rattle.call_words.specs.declared.event.Event.{Event}
+use Rattle.call_words.specs.declared.event.Event.TheVariants as event
+use Rattle.call_words.specs.declared.event.Reply.{Reply}
+use Rattle.call_words.specs.declared.event.Reply.TheVariants.{Num, Bytes, Text, Denied, Gone}
+use Rattle.call_words.specs.declared.event.Decision.{Decision}
+use Rattle.call_words.specs.declared.event.Decision.TheVariants.{Answer, Taken, Noted}
 use Rattle.call_words.specs.Events.{WakeList}
 use Rattle.script_text.specs.Words.{hex_word}
 use Rattle.script_text.specs.Paths.{text_word}

@@ -2,9 +2,9 @@
 -- groups, of which each goes on with the next.
 use Rattle.std.specs.Prelude.{ℕ, List, [], ◌∷◌, Option, Some, None, if◌then◌else◌, option_map, option_and_then, codes}
 use Rattle.std.specs.Str.{bytes_eq}
-use Rattle.call_words.specs.declared.calls.Call.{Call}
-use Rattle.call_words.specs.declared.calls.Call.TheVariants as call
-use Rattle.call_words.specs.declared.calls.OpenFlags.{OpenFlags}
+use Rattle.call_words.specs.declared.call.Call.{Call}
+use Rattle.call_words.specs.declared.call.Call.TheVariants as call
+use Rattle.call_words.specs.declared.open.OpenFlags.{OpenFlags}
 use Rattle.script_text.specs.Words.{bytes_of_word}
 use Rattle.script_text.specs.Paths.{path_of}
 use Rattle.script_text.specs.Values.{fd_of, max_of, from_of, access_of, flags_of, mode_of, no_flags, default_mode}

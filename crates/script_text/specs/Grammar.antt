@@ -11,15 +11,15 @@ use Rattle.label_core.specs.Text.{element_text, subject_text}
 use Rattle.acl_core.specs.declared.entry.Entry.{Entry}
 use Rattle.acl_core.specs.declared.cred.TheConstants.{MOST_GROUPS}
 use Rattle.acl_core.specs.Text.{list_text, HasText}
-use Rattle.call_words.specs.declared.limits.TheConstants.{SLOTS, LINES, SCRIPT_LINE_BYTES}
-use Rattle.call_words.specs.declared.text.TheConstants.{PIECE_BYTES, PATH_BYTES}
-use Rattle.call_words.specs.declared.calls.Access.{Access}
-use Rattle.call_words.specs.declared.calls.OpenFlags.{OpenFlags}
-use Rattle.call_words.specs.declared.calls.Call.{Call}
-use Rattle.call_words.specs.declared.calls.Call.TheVariants as call
-use Rattle.call_words.specs.declared.lists.WhichList.{WhichList}
-use Rattle.call_words.specs.declared.events.Event.{Event}
-use Rattle.call_words.specs.declared.events.Event.TheVariants as event
+use Rattle.sys_types.specs.declared.limits.TheConstants.{SLOTS, LINES, SCRIPT_LINE_BYTES}
+use Rattle.sys_types.specs.declared.limits.TheConstants.{PIECE_BYTES, PATH_BYTES}
+use Rattle.call_words.specs.declared.open.Access.{Access}
+use Rattle.call_words.specs.declared.open.OpenFlags.{OpenFlags}
+use Rattle.call_words.specs.declared.call.Call.{Call}
+use Rattle.call_words.specs.declared.call.Call.TheVariants as call
+use Rattle.call_words.specs.declared.attr.WhichList.{WhichList}
+use Rattle.call_words.specs.declared.event.Event.{Event}
+use Rattle.call_words.specs.declared.event.Event.TheVariants as event
 use Rattle.script_text.specs.Words.{words, bytes_of_word, hex_word}
 use Rattle.script_text.specs.Paths.{path_of, path_word}
 use Rattle.script_text.specs.Values.{slot_of, line_of, fd_of, max_of, taken_of, from_of, mode_of, access_of, flags_of, no_flags, default_mode, line_word, mode_word, access_word, flags_word}

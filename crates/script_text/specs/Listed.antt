@@ -1,6 +1,6 @@
 -- The events of a line, as they are kept.
 use Rattle.std.specs.Prelude.{List, [], ◌∷◌}
-use Rattle.call_words.specs.declared.events.Event.{Event}
+use Rattle.call_words.specs.declared.event.Event.{Event}
 use Rattle.script_text.specs.declared.events.Kept.{Kept}
 use Rattle.script_text.specs.declared.events.Kept.TheVariants.{One, Arrivals}
 use Rattle.script_text.specs.Reading.{arrivals}

@@ -5,7 +5,7 @@ use Rattle.std.specs.Prelude.{ℕ, ◌+◌, ◌*◌, Bool, not, ◌&&◌, ◌==�
 use Rattle.std.specs.Char.{digit_value}
 use Rattle.std.specs.Str.{bytes_eq, byte}
 use Rattle.hex.specs.Hex.{encode_lower}
-use Rattle.call_words.specs.declared.text.TheConstants.{PATH_BYTES}
+use Rattle.sys_types.specs.declared.limits.TheConstants.{PATH_BYTES}
 use Rattle.script_text.specs.Words.{only_if}
 
 -- a byte that is written as itself

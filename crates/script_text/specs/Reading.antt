@@ -2,9 +2,9 @@
 -- `Grammar` says the same.
 use Rattle.std.specs.Prelude.{ℕ, not, ◌==◌, List, [], ◌∷◌, length, map, Option, Some, None, nat_le, if◌then◌else◌, option_map, option_and_then, codes}
 use Rattle.std.specs.Str.{bytes_eq}
-use Rattle.call_words.specs.declared.limits.TheConstants.{SCRIPT_LINE_BYTES}
-use Rattle.call_words.specs.declared.events.Event.{Event}
-use Rattle.call_words.specs.declared.events.Event.TheVariants as event
+use Rattle.sys_types.specs.declared.limits.TheConstants.{SCRIPT_LINE_BYTES}
+use Rattle.call_words.specs.declared.event.Event.{Event}
+use Rattle.call_words.specs.declared.event.Event.TheVariants as event
 use Rattle.script_text.specs.Words.{words, only_if, bytes_of_word}
 use Rattle.script_text.specs.Values.{slot_of, line_of, taken_of}
 use Rattle.script_text.specs.Calls.{call_of}

@@ -9,8 +9,8 @@ use Rattle.label_core.specs.Reading.{element_of, subject_of}
 use Rattle.acl_core.specs.declared.entry.Entry.{Entry}
 use Rattle.acl_core.specs.declared.cred.TheConstants.{MOST_GROUPS}
 use Rattle.acl_core.specs.Reading.{read_of}
-use Rattle.call_words.specs.declared.lists.WhichList.{WhichList}
-use Rattle.call_words.specs.declared.lists.WhichList.TheVariants as which
+use Rattle.call_words.specs.declared.attr.WhichList.{WhichList}
+use Rattle.call_words.specs.declared.attr.WhichList.TheVariants as which
 use Rattle.script_text.specs.Words.{only_if, number_below, parted}
 
 -- the number of a user or a group has 32 bits

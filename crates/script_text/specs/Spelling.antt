@@ -3,7 +3,7 @@ use Rattle.std.specs.Prelude.{◌≡◌, ℕ, ◌<◌, ◌≤◌, true, false, L
 use Rattle.std.specs.List.{AllByRecursion}
 use Rattle.std.specs.Char.{digit_value}
 use Rattle.std.specs.Str.{byte}
-use Rattle.call_words.specs.declared.text.TheConstants.{PATH_BYTES}
+use Rattle.sys_types.specs.declared.limits.TheConstants.{PATH_BYTES}
 use Rattle.script_text.specs.Paths.{is_plain, pair_value}
 
 -- a byte as it is, or two digits behind a percent sign

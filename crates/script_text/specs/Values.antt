@@ -3,11 +3,11 @@ use Rattle.std.specs.Prelude.{ℕ, ◌+◌, ◌^◌, Bool, false, not, ◌&&◌,
 use Rattle.std.specs.List.{list_all}
 use Rattle.std.specs.Fmt.{decimal, digits}
 use Rattle.std.specs.Str.{bytes_eq, byte}
-use Rattle.call_words.specs.declared.limits.TheConstants.{SLOTS, LINES}
-use Rattle.call_words.specs.declared.text.TheConstants.{PIECE_BYTES}
-use Rattle.call_words.specs.declared.calls.Access.{Access}
-use Rattle.call_words.specs.declared.calls.Access.TheVariants as access
-use Rattle.call_words.specs.declared.calls.OpenFlags.{OpenFlags}
+use Rattle.sys_types.specs.declared.limits.TheConstants.{SLOTS, LINES}
+use Rattle.sys_types.specs.declared.limits.TheConstants.{PIECE_BYTES}
+use Rattle.call_words.specs.declared.open.Access.{Access}
+use Rattle.call_words.specs.declared.open.Access.TheVariants as access
+use Rattle.call_words.specs.declared.open.OpenFlags.{OpenFlags}
 use Rattle.script_text.specs.Words.{only_if, number_below}
 
 -- the number of a slot

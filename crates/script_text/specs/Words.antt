@@ -5,7 +5,7 @@ use Rattle.std.specs.Str.{bytes_eq, byte}
 use Rattle.std.specs.Str.Parse.{digits_value}
 use Rattle.std.specs.Result.{result_ok}
 use Rattle.hex.specs.Hex.{decode_of, encode_lower}
-use Rattle.call_words.specs.declared.text.TheConstants.{PIECE_BYTES}
+use Rattle.sys_types.specs.declared.limits.TheConstants.{PIECE_BYTES}
 
 -- the parts of a text round each place of a byte
 unfoldable pub parted : ℕ → List ℕ → List (List ℕ)

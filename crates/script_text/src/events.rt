@@ -1,6 +1,6 @@
 //! The events of a line.
 ghost use Rattle.std.specs.Prelude.{◌≡◌, ℕ, ◌<◌, ◌≤◌, List, [], ◌∷◌, length, slice_get, Some};
-ghost use Rattle.call_words.specs.declared.text.TheConstants.{PIECE_BYTES};
+ghost use Rattle.sys_types.specs.declared.limits.TheConstants.{PIECE_BYTES};
 ghost use Rattle.script_text.specs.Reading.{arrivals};
 
 use call_words::{Event, Piece};
@@ -23,8 +23,8 @@ pub struct Events {
 
 impl Model for Events {
     ghost use Rattle.std.specs.Prelude.{ℕ, ◌<◌, ◌≤◌, List, length};
-    ghost use Rattle.call_words.specs.declared.events.Event.{Event};
-    ghost use Rattle.call_words.specs.declared.text.TheConstants.{PIECE_BYTES};
+    ghost use Rattle.call_words.specs.declared.event.Event.{Event};
+    ghost use Rattle.sys_types.specs.declared.limits.TheConstants.{PIECE_BYTES};
 
     ghost Value = { List Event };
 

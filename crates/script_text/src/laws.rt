@@ -1,6 +1,6 @@
 //! What holds of every line and every word, as contracts of functions that do nothing.
 ghost use Rattle.std.specs.Prelude.{◌≡◌, ℕ, ◌↔◌, List, Some};
-ghost use Rattle.call_words.specs.declared.events.Event.{Event};
+ghost use Rattle.call_words.specs.declared.event.Event.{Event};
 ghost use Rattle.script_text.specs.Paths.{path_of};
 ghost use Rattle.script_text.specs.Spelling.{WritesPath};
 ghost use Rattle.script_text.specs.Reading.{events_of_line};

@@ -2,8 +2,8 @@
 ghost use Rattle.std.specs.Prelude.{◌≡◌, ℕ, ◌+◌, ◌-◌, ◌*◌, ◌<◌, ◌≤◌, List, [], ◌∷◌, ◌++◌, length, take, flat_map, codes};
 ghost use Rattle.hex.specs.Hex.{encode_lower};
 ghost use Rattle.arrayvec.specs.ArrayVec.{array_vec_len};
-ghost use Rattle.call_words.specs.declared.text.TheConstants.{PIECE_BYTES, TEXT_BYTES};
-ghost use Rattle.call_words.specs.Events.{listed};
+ghost use Rattle.sys_types.specs.declared.limits.TheConstants.{PIECE_BYTES, TEXT_BYTES};
+ghost use Rattle.call_words.specs.Events.{wake_list};
 ghost use Rattle.script_text.specs.Words.{hex_word};
 ghost use Rattle.script_text.specs.Paths.{escaped_byte, text_word};
 ghost use Rattle.script_text.specs.Answers.{reply_text, decision_text, asker_text, wake_text, answer_line};

@@ -1,6 +1,6 @@
 //! Event lines as events.
 ghost use Rattle.std.specs.Prelude.{◌≡◌, ℕ, ◌<◌, ◌≤◌, List, [], ◌∷◌, length, All, IfSome};
-ghost use Rattle.call_words.specs.declared.text.TheConstants.{PIECE_BYTES};
+ghost use Rattle.sys_types.specs.declared.limits.TheConstants.{PIECE_BYTES};
 ghost use Rattle.call_words.specs.Events.{MayBeUsed};
 ghost use Rattle.script_text.specs.Words.{words as words_of};
 ghost use Rattle.script_text.specs.Reading.{in_of, take_of, slot_call_of, events_of_words, events_of_line};

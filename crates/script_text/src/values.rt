@@ -2,8 +2,8 @@
 ghost use Rattle.std.specs.Prelude.{◌≡◌, ◌==◌, ℕ, ◌+◌, ◌*◌, ◌<◌, ◌≤◌, ◌^◌, List, length, count_by, nat_le, IfSome};
 ghost use Rattle.std.specs.List.{list_all};
 ghost use Rattle.acl_core.specs.declared.mode.TheConstants.{MODE_MOST};
-ghost use Rattle.call_words.specs.declared.limits.TheConstants.{SLOTS, LINES};
-ghost use Rattle.call_words.specs.declared.text.TheConstants.{PIECE_BYTES};
+ghost use Rattle.sys_types.specs.declared.limits.TheConstants.{SLOTS, LINES};
+ghost use Rattle.sys_types.specs.declared.limits.TheConstants.{PIECE_BYTES};
 ghost use Rattle.script_text.specs.Words.{number_below};
 ghost use Rattle.script_text.specs.Values.{slot_of, line_of, fd_of, max_of, taken_of, from_of, mode_of, access_of, flag_letters, is_flag_letter, times, are_flags, flags_in, flags_of};
 

@@ -3,7 +3,7 @@ use Rattle.std.proofs.Common.{◌≡◌, ℕ, ◌+◌, ◌<◌, ◌≤◌, true,
 use Rattle.std.specs.Prelude.{slice_get}
 use Rattle.std.specs.List.{list_all}
 use Rattle.std.proofs.lemmas.Option.{slice_get_within, get_or_from_slice_get}
-use Rattle.call_words.specs.declared.events.Event.{Event}
+use Rattle.call_words.specs.declared.event.Event.{Event}
 use Rattle.machine_model.specs.Step.{is_built}
 
 -- the next event decides about itself

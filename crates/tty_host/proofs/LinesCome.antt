@@ -4,7 +4,7 @@ use Rattle.std.specs.Prelude.{OnOk}
 use Rattle.std.specs.List.{slice_split, onto_first}
 use Rattle.std.proofs.lemmas.List.Splits.{slice_split-cons_no}
 use Rattle.std.proofs.lemmas.Bool.{and_parts, lt-leb}
-use Rattle.call_words.specs.declared.events.Event.{Event}
+use Rattle.call_words.specs.declared.event.Event.{Event}
 use Rattle.machine_model.specs.View.{View}
 use Rattle.script_model.specs.Seen.{out_seen}
 use Rattle.script_model.specs.Script.{Output, text_end}

@@ -3,8 +3,8 @@ use Rattle.std.proofs.Common.{◌≡◌, ℕ, zero, suc, ◌+◌, ◌-◌, ◌<�
 use Rattle.std.specs.Prelude.{codes, slice_get}
 use Rattle.std.proofs.lemmas.Option.{slice_get_within, get_or_from_slice_get}
 use Rattle.edge_io.specs.Outside.{Appended}
-use Rattle.call_words.specs.declared.events.Event.{Event}
-use Rattle.call_words.specs.declared.events.Decision.{Decision}
+use Rattle.call_words.specs.declared.event.Event.{Event}
+use Rattle.call_words.specs.declared.event.Decision.{Decision}
 use Rattle.call_words.specs.Events.{WakeList}
 use Rattle.machine_model.specs.View.{View}
 use Rattle.machine_model.specs.Step.{view_after, answer_to, wakes, may_want_memory}

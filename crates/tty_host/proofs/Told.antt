@@ -2,7 +2,7 @@
 use Rattle.std.proofs.Common.{◌≡◌, ℕ, ◌+◌, List, [], ◌∷◌, ◌++◌, map, take, drop, Some, None, Option, Ok, Err, Result, refl, sym, ap, subst, ◌∙◌, append_assoc, append-nil, take-add, ◌≤◌, inl, inr, arith}
 use Rattle.std.specs.Prelude.{if◌then◌else◌, true}
 use Rattle.edge_io.specs.Outside.{Rose, Appended}
-use Rattle.call_words.specs.declared.events.Event.{Event}
+use Rattle.call_words.specs.declared.event.Event.{Event}
 use Rattle.machine_model.specs.View.{View}
 use Rattle.machine_model.specs.Step.{may_want_memory}
 use Rattle.script_model.specs.Script.{Output, stop_before}

@@ -1,6 +1,6 @@
 -- What a run still writes.
 use Rattle.std.specs.Prelude.{ℕ, ◌+◌, ◌-◌, ◌*◌, List, ◌++◌, Option, length}
-use Rattle.call_words.specs.declared.events.Event.{Event}
+use Rattle.call_words.specs.declared.event.Event.{Event}
 use Rattle.user_db.specs.Lines.{lines}
 use Rattle.script_model.specs.Reading.{reads_from}
 use Rattle.script_model.specs.Script.{Output}

@@ -1,7 +1,7 @@
 -- What the top calls promise.
 use Rattle.std.specs.Prelude.{◌≡◌, ℕ, ◌≤◌, ◌⊎◌, List, [], ◌∷◌, length, Some, None, Ok, IsOk, IsErr, if◌then◌else◌, codes}
 use Rattle.std.specs.Str.{bytes_eq}
-use Rattle.call_words.specs.declared.limits.TheConstants.{TRAIL_EVENTS}
+use Rattle.sys_types.specs.declared.limits.TheConstants.{TRAIL_EVENTS}
 use Rattle.edge_io.specs.Outside.{Appended}
 use Rattle.script_model.specs.Reading.{reads}
 use Rattle.user_db.specs.declared.boot.Boot.{Boot}

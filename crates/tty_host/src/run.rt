@@ -2,7 +2,7 @@
 ghost use Rattle.std.specs.Prelude.{◌≡◌, ℕ, ◌+◌, ◌-◌, ◌*◌, ◌<◌, ◌≤◌, List, [], ◌∷◌, ◌++◌, length, take, drop, Option, Some, None, Ok, Err, All, IfOk, OnOk, OnErr, IsTrue};
 ghost use Rattle.arrayvec.specs.ArrayVec.{array_vec_len};
 ghost use Rattle.edge_io.specs.Outside.{Rose, Appended};
-ghost use Rattle.call_words.specs.declared.events.Event.{Event};
+ghost use Rattle.call_words.specs.declared.event.Event.{Event};
 ghost use Rattle.user_db.specs.Boot.{IsBoot};
 ghost use Rattle.machine_model.specs.State.{boot};
 ghost use Rattle.machine_model.specs.View.{view};

@@ -1,3 +1,4 @@
 mod LinesCome
+mod OneGrammar
 pub mod NoUsers
 pub mod TooLong

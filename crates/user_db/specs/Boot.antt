@@ -1,6 +1,6 @@
 -- What a boot text says: its boot, or the number of its first bad line.
 use Rattle.std.specs.Prelude.{◌≡◌, ℕ, ◌+◌, false, List, [], ◌∷◌, nat_le, replicate, Option, Some, None, is_none, unwrap_or, option_and_then, Result, Ok, Err, if◌then◌else◌, ⊤}
-use Rattle.user_db.specs.declared.boot.TheConstants.{TTYS}
+use Rattle.sys_types.specs.declared.limits.TheConstants.{LINES}
 use Rattle.user_db.specs.declared.boot.Boot.{Boot}
 use Rattle.user_db.specs.declared.boot.Draft.{Draft}
 use Rattle.user_db.specs.declared.fault.BootFault.{BootFault}
@@ -20,15 +20,15 @@ abbrev pub with_line : BootLine → Draft → Option Draft
 with_line (Recheck on) draft = if is_none draft.recheck then Some (record draft { recheck = Some on }) else None
 
 -- line number n more, unless it is bad: behind the last that a text may have, none of the kinds, or said before
-abbrev pub numbered : ℕ → List ℕ → Draft → Option Draft
-numbered n line draft =
+abbrev pub with_line_at : ℕ → List ℕ → Draft → Option Draft
+with_line_at n line draft =
     if nat_le n BOOT_LINES
     then option_and_then (λ l. with_line l draft) (boot_line_of line)
     else None
 
 -- what the whole text says; what no line speaks of is off
-abbrev pub finished : Draft → Boot
-finished draft = record { recheck = unwrap_or draft.recheck false; users = draft.users; on = replicate TTYS false }
+abbrev pub boot_of_draft : Draft → Boot
+boot_of_draft draft = record { recheck = unwrap_or draft.recheck false; users = draft.users; on = replicate LINES false }
 
 -- going on with what the lines say so far, where line number n is not bad
 abbrev pub unless_bad : ℕ → Option Draft → (Draft → Result Boot ℕ) → Result Boot ℕ
@@ -37,8 +37,8 @@ unless_bad n (Some draft) go_on = go_on draft
 
 -- lines in order, of which the first has number n
 abbrev pub boot_from : ℕ → Draft → List (List ℕ) → Result Boot ℕ
-boot_from n draft [] = Ok (finished draft)
-boot_from n draft (line ∷ more) = unless_bad n (numbered n line draft) (λ d. boot_from (n + 1) d more)
+boot_from n draft [] = Ok (boot_of_draft draft)
+boot_from n draft (line ∷ more) = unless_bad n (with_line_at n line draft) (λ d. boot_from (n + 1) d more)
 
 -- the boot that a text says, or the number of its first bad line, counted from 1
 unfoldable pub boot_of : List ℕ → Result Boot ℕ

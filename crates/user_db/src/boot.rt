@@ -1,14 +1,12 @@
 //! What a machine is told before its first event, and what the lines of its text say so far.
 ghost use Rattle.std.specs.Prelude.{◌≡◌, IfOk};
-ghost use Rattle.user_db.specs.Boot.{no_lines, with_line, finished};
+ghost use Rattle.user_db.specs.Boot.{no_lines, with_line, boot_of_draft};
 
 use crate::fault::NoMemory;
 use crate::line::BootLine;
 use crate::user::Users;
 use std::alloc::Global;
-
-/// How many terminal lines a machine has.
-pub const TTYS: usize = 8;
+use sys_types::LINES;
 
 /// What a machine is told before its first event.
 #[derive(Drop)]
@@ -18,8 +16,8 @@ pub struct Boot {
     pub recheck: bool,
     /// The users, in the order of the text.
     pub users: Users,
-    /// For each terminal line whether someone may log in there.
-    pub on: [bool; TTYS],
+    /// For each of the 8 terminal lines whether someone may log in there (ttys(5)).
+    pub on: [bool; LINES],
 }
 
 impl Boot {
@@ -74,12 +72,12 @@ impl Draft {
 
     /// What the whole text says. What no line speaks of is off.
     pub(crate) fn finish(self) -> Boot
-        ensures { result ≡ finished self }
+        ensures { result ≡ boot_of_draft self }
     {
         Boot {
             recheck: self.recheck.unwrap_or(false),
             users: self.users,
-            on: [false; TTYS],
+            on: [false; LINES],
         }
     }
 }

@@ -6,12 +6,13 @@
 
 mod boot;
 mod fault;
+pub mod laws;
 mod line;
 mod name;
 mod read;
 mod user;
 
-pub use boot::{Boot, TTYS};
+pub use boot::Boot;
 pub use fault::{BootFault, NoMemory};
 pub use line::{BOOT_LINE_BYTES, BOOT_LINES, BOOT_TEXT_BYTES};
 pub use name::{NAME_BYTES, Name};

@@ -9,7 +9,7 @@ pub const BOOT_LINES: u32 = 256;
 pub const BOOT_LINE_BYTES: usize = 4096;
 
 /// How many bytes a boot text has at most, with its newlines. A text of more is bad, and its first
-/// bad line is told by any front of it that is longer than this.
+/// bad line is told by any prefix of it that is longer than this.
 pub const BOOT_TEXT_BYTES: usize = BOOT_LINES as usize * (BOOT_LINE_BYTES + 1);
 
 /// What a line of a boot text says.

@@ -1,7 +1,7 @@
 //! A boot text as a boot.
 ghost use Rattle.std.specs.Prelude.{◌≡◌, ◌==◌, ◌<◌, ◌≤◌, [], ◌∷◌, length, position, MatchOption, IfSome, IfOk};
 ghost use Rattle.user_db.specs.Lines.{is_newline, lines};
-ghost use Rattle.user_db.specs.Boot.{numbered, boot_of, Reads, IsBoot};
+ghost use Rattle.user_db.specs.Boot.{with_line_at, boot_of, Reads, IsBoot};
 
 use crate::boot::{Boot, Draft};
 use crate::fault::BootFault;
@@ -30,8 +30,8 @@ fn next_line(text: &[u8]) -> Option<(&[u8], &[u8])>
 }
 
 /// What the lines say with line number `number` too. `None` exactly where that line is bad.
-fn with_numbered(draft: Draft, number: u32, line: &[u8]) -> Option<Draft>
-    ensures said { result ≡ numbered number line.now draft }
+fn with_line_of_number(draft: Draft, number: u32, line: &[u8]) -> Option<Draft>
+    ensures said { result ≡ with_line_at number line.now draft }
     ensures within { IfSome result (λ _. number ≤ BOOT_LINES) }
 {
     if number > BOOT_LINES {
@@ -59,7 +59,7 @@ pub fn read_boot(alloc: Global, text: &[u8]) -> Result<Boot, BootFault>
     let mut number = 1;
     let mut rest = text;
     while let Some((line, after)) = next_line(rest) {
-        match with_numbered(draft, number, line) {
+        match with_line_of_number(draft, number, line) {
             Some(longer) => draft = longer,
             None => return Err(BootFault::Line(number)),
         }

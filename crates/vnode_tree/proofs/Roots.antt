@@ -6,7 +6,7 @@ use Rattle.std.proofs.lemmas.List.{get_or-set_same, get_or-set_other}
 use Rattle.std.proofs.lemmas.List.Sums.{sum_by-cons}
 use Rattle.std.proofs.lemmas.Bool.{cases_eq}
 use Rattle.access_rule.specs.Tree.{is_dir}
-use Rattle.call_words.specs.declared.node.Kind.TheVariants as kind
+use Rattle.sys_types.specs.declared.node.Kind.TheVariants as kind
 use Rattle.vnode_tree.specs.declared.entry.Entry.{Entry}
 use Rattle.vnode_tree.specs.Nodes.{Named, named_at, same_path, tree_of}
 use Rattle.vnode_tree.specs.Links.{entry_at, path_up, record_in, nodes_of}

@@ -7,9 +7,9 @@ use Rattle.std.specs.List.{range_with_len}
 use Rattle.std.proofs.lemmas.List.{take_more, map-append, append-nil, map-id}
 use Rattle.std.proofs.lemmas.List.Concat.{flat_map-append}
 use Rattle.std.proofs.lemmas.List.FromFn.{map-range_with_len_more}
-use Rattle.call_words.specs.declared.image.Image.TheVariants as image
-use Rattle.call_words.specs.declared.image.Image.{Image}
-use Rattle.call_words.specs.Images.{images, image_name}
+use Rattle.sys_types.specs.declared.image.Image.TheVariants as image
+use Rattle.sys_types.specs.declared.image.Image.{Image}
+use Rattle.sys_types.specs.Images.{images, image_name}
 use Rattle.vnode_tree.specs.Nodes.{Named, named_at, tree_of}
 use Rattle.vnode_tree.specs.Contents.{space_of}
 use Rattle.vnode_tree.specs.Standard.{IsMapOf, can_add, standard_dirs, image_node, bin_node, dev_node, etc_node, line_name, line_node, with_images, with_lines, list_nodes, tty_text}

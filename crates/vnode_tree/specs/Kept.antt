@@ -1,8 +1,8 @@
 -- What a table of nodes keeps.
 use Rattle.std.specs.Prelude.{◌≡◌, ℕ, true, ◌<◌, ◌≤◌, ◌≢◌, List, [], length, Option, Some, None, IsSome, sum_by}
 use Rattle.access_rule.specs.Tree.{is_dir}
-use Rattle.call_words.specs.declared.node.Kind.TheVariants as kind
-use Rattle.call_words.specs.declared.limits.TheConstants.{NODES, FILE_SPACE}
+use Rattle.sys_types.specs.declared.node.Kind.TheVariants as kind
+use Rattle.sys_types.specs.declared.limits.TheConstants.{NODES, FILE_SPACE}
 use Rattle.vnode_tree.specs.declared.entry.Entry.{Entry}
 use Rattle.vnode_tree.specs.Links.{entry_at, path_up}
 

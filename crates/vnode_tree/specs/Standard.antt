@@ -1,7 +1,7 @@
 -- What stands in a table of nodes, by the nodes that a boot makes.
 use Rattle.std.specs.Prelude.{◌≡◌, ℕ, ◌+◌, Bool, ◌&&◌, nat_lt, nat_le, is_none, List, [], ◌∷◌, ◌++◌, length, map, Option, Some}
 use Rattle.access_rule.specs.Tree.{Named, is_dir_record}
-use Rattle.call_words.specs.declared.limits.TheConstants.{NODES, FILE_SPACE}
+use Rattle.sys_types.specs.declared.limits.TheConstants.{NODES, FILE_SPACE}
 use Rattle.vnode_tree.specs.declared.TheConstants.{NAME_BYTES}
 use Rattle.vnode_tree.specs.Nodes.{IsLive, named_at, record_of, path_of, tree_of, is_name, count_of}
 use Rattle.vnode_tree.specs.Contents.{space_of}

@@ -3,12 +3,12 @@ ghost use Rattle.std.specs.Prelude.{◌≡◌, ℕ, ◌+◌, ◌*◌, ◌<◌, �
 ghost use Rattle.label_core.specs.declared.element.Element.{Element};
 ghost use Rattle.label_core.specs.declared.element.Element.TheVariants as element;
 ghost use Rattle.acl_core.specs.Mode.{minimal_list};
-ghost use Rattle.call_words.specs.declared.node.Kind.TheVariants as kind;
-ghost use Rattle.call_words.specs.Images.{images};
+ghost use Rattle.sys_types.specs.declared.node.Kind.TheVariants as kind;
+ghost use Rattle.sys_types.specs.Images.{images};
 ghost use Rattle.user_db.specs.Boot.{IsBoot};
 ghost use Rattle.access_rule.specs.Tree.{is_dir, is_dir_record, nodes_from};
 ghost use Rattle.access_rule.specs.Standard.{standard_tree};
-ghost use Rattle.call_words.specs.declared.limits.TheConstants.{NODES, FILE_SPACE};
+ghost use Rattle.sys_types.specs.declared.limits.TheConstants.{NODES, FILE_SPACE};
 ghost use Rattle.vnode_tree.specs.Nodes.{Named, IsLive, named_at, path_of, record_of, tree_of, new_node, is_name, count_of};
 ghost use Rattle.vnode_tree.specs.Contents.{space_of};
 ghost use Rattle.vnode_tree.specs.Standard.{IsMapOf, Keeps, can_add, mode_755, owned, super_node, root_node, standard_dirs, image_text, image_node, list_nodes, line_node, tty_node, line_name, home_node, tty_line, ttys_text, standard, bin_node, etc_node, home_dir_node, dev_node, with_images, with_lines};

@@ -2,7 +2,7 @@
 ghost use Rattle.std.specs.Prelude.{◌≡◌, ℕ, List, IsSome, Some, None, is_none, position, sum_by, slice_index_or, slice_set, ◌+◌, ◌<◌, ◌≤◌, ◌^◌, [], length, OnOk, OnErr};
 ghost use Rattle.vnode_tree.specs.Links.{entry_at, is_child, is_in, with_entry, entry_with_attrs, entry_with_default, entry_with_contents};
 ghost use Rattle.vnode_tree.specs.Contents.{written};
-ghost use Rattle.call_words.specs.declared.limits.TheConstants.{FILE_SPACE};
+ghost use Rattle.sys_types.specs.declared.limits.TheConstants.{FILE_SPACE};
 ghost use Rattle.vnode_tree.specs.Kept.{size_in};
 
 use crate::entry::Entry;

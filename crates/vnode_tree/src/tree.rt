@@ -5,7 +5,7 @@ ghost use Rattle.access_rule.specs.Tree.{NodeRecord, is_dir, is_dir_record, pare
 ghost use Rattle.access_rule.specs.Listing.{is_empty_dir};
 ghost use Rattle.vnode_tree.specs.Contents.{bytes_at, with_written, space_of};
 ghost use Rattle.vnode_tree.specs.Standard.{Keeps};
-ghost use Rattle.call_words.specs.declared.limits.TheConstants.{NODES, FILE_SPACE};
+ghost use Rattle.sys_types.specs.declared.limits.TheConstants.{NODES, FILE_SPACE};
 ghost use Rattle.vnode_tree.specs.declared.tree.WriteFault.TheVariants.{Space};
 ghost use Rattle.vnode_tree.specs.Nodes.{IsLive, IsFile, is_file_record, IsAt, IsLeaf, IsRemovable, HasChild, named_at, path_of, record_of, tree_of, with_node, with_record, with_attrs, with_default, with_contents, new_node, is_name, count_of, ChangesAt};
 

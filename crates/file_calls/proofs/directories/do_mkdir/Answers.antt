@@ -1,5 +1,5 @@
 use Rattle.std.proofs.Common.{◌≡◌, [], ◌∷◌, ◌++◌, sym, ap, ◌∙◌}
-use Rattle.call_words.specs.declared.node.Kind.TheVariants.{Dir}
+use Rattle.sys_types.specs.declared.node.Kind.TheVariants.{Dir}
 use Rattle.access_rule.specs.Tree.{absent}
 use Rattle.machine_model.specs.PathCalls.{mkdir_at}
 use Rattle.machine_model.specs.Rows.{denied_by}

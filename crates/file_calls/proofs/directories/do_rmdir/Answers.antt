@@ -1,6 +1,6 @@
 use Rattle.std.proofs.Common.{◌≡◌, ◌≢◌, true, false, None, refl, sym, ap, ◌∙◌}
 use Rattle.std.proofs.lemmas.Bool.{eqb-true, eq-eqb}
-use Rattle.call_words.specs.declared.rules.Rule.TheVariants.{LabelWrite, NotEmpty, InUse}
+use Rattle.sys_types.specs.declared.rules.Rule.TheVariants.{LabelWrite, NotEmpty, InUse}
 use Rattle.access_rule.specs.Tree.{is_dir_record, parent_of}
 use Rattle.machine_model.specs.PathCalls.{rmdir_at}
 use Rattle.machine_model.specs.Places.{access_line, node_dominates}

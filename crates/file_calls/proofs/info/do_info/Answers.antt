@@ -1,7 +1,7 @@
 use Rattle.std.proofs.Common.{◌≡◌, true, false, refl, sym, ◌∙◌}
-use Rattle.call_words.specs.declared.events.Decision.TheVariants.{Answer}
-use Rattle.call_words.specs.declared.events.Reply.TheVariants.{Denied}
-use Rattle.call_words.specs.declared.rules.Rule.TheVariants.{LabelRead}
+use Rattle.call_words.specs.declared.event.Decision.TheVariants.{Answer}
+use Rattle.call_words.specs.declared.event.Reply.TheVariants.{Denied}
+use Rattle.sys_types.specs.declared.rules.Rule.TheVariants.{LabelRead}
 use Rattle.machine_model.specs.PathCalls.{info_at}
 use Rattle.machine_model.specs.Places.{dominates_node}
 use Rattle.vnode_tree.specs.Nodes.{path_of}

@@ -1,5 +1,5 @@
 use Rattle.std.proofs.Common.{◌≡◌, true, false, refl, sym, ◌∙◌}
-use Rattle.call_words.specs.declared.rules.Rule.TheVariants.{LabelRead}
+use Rattle.sys_types.specs.declared.rules.Rule.TheVariants.{LabelRead}
 use Rattle.machine_model.specs.NodeCalls.{getlabel_at}
 use Rattle.machine_model.specs.Places.{dominates_node}
 use Rattle.file_calls.specs.Makes.{what_is}

@@ -1,6 +1,6 @@
 use Rattle.std.proofs.Common.{◌≡◌, true, false, refl, sym, ◌∙◌}
 use Rattle.std.proofs.lemmas.Bool.{not-false, not-true}
-use Rattle.call_words.specs.declared.rules.Rule.TheVariants.{Owner, Relabel}
+use Rattle.sys_types.specs.declared.rules.Rule.TheVariants.{Owner, Relabel}
 use Rattle.machine_model.specs.NodeCalls.{setlabel_at, may_not_relabel, with_element}
 use Rattle.machine_model.specs.Places.{is_not_owner}
 use Rattle.file_calls.specs.Makes.{what_is}

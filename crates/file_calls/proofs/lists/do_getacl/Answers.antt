@@ -1,5 +1,5 @@
 use Rattle.std.proofs.Common.{◌≡◌, true, false, refl, sym, ◌∙◌}
-use Rattle.call_words.specs.declared.rules.Rule.TheVariants.{LabelRead, NotDir}
+use Rattle.sys_types.specs.declared.rules.Rule.TheVariants.{LabelRead, NotDir}
 use Rattle.machine_model.specs.NodeCalls.{getacl_at, lacks_list}
 use Rattle.machine_model.specs.Places.{dominates_node}
 use Rattle.vnode_tree.specs.Nodes.{path_of}

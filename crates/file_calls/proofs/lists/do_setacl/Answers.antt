@@ -1,9 +1,9 @@
 use Rattle.std.proofs.Common.{◌≡◌, List, true, false, refl, sym, ap, ◌∙◌}
 use Rattle.std.proofs.lemmas.Bool.{not-false, not-true}
 use Rattle.acl_core.specs.declared.entry.Entry.{Entry}
-use Rattle.call_words.specs.declared.lists.WhichList.{WhichList}
-use Rattle.call_words.specs.declared.lists.WhichList.TheVariants.{Access, Default}
-use Rattle.call_words.specs.declared.rules.Rule.TheVariants.{LabelWrite, Owner, NotDir, AclBad}
+use Rattle.call_words.specs.declared.attr.WhichList.{WhichList}
+use Rattle.call_words.specs.declared.attr.WhichList.TheVariants.{Access, Default}
+use Rattle.sys_types.specs.declared.rules.Rule.TheVariants.{LabelWrite, Owner, NotDir, AclBad}
 use Rattle.access_rule.specs.Tree.{NodeRecord}
 use Rattle.acl_core.specs.Acl.{acl_of}
 use Rattle.machine_model.specs.NodeCalls.{setacl_at, lacks_list, is_bad_list, with_entries}

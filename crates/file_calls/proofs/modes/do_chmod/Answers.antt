@@ -1,6 +1,6 @@
 use Rattle.std.proofs.Common.{◌≡◌, true, false, refl, sym, ◌∙◌}
 use Rattle.std.proofs.lemmas.Bool.{not-false, not-true}
-use Rattle.call_words.specs.declared.rules.Rule.TheVariants.{LabelWrite, Owner}
+use Rattle.sys_types.specs.declared.rules.Rule.TheVariants.{LabelWrite, Owner}
 use Rattle.machine_model.specs.NodeCalls.{chmod_at, with_bits}
 use Rattle.machine_model.specs.Places.{node_dominates, is_not_owner}
 use Rattle.file_calls.specs.Makes.{what_is}

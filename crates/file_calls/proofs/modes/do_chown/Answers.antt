@@ -1,5 +1,5 @@
 use Rattle.std.proofs.Common.{◌≡◌, true, false, refl, sym, ◌∙◌}
-use Rattle.call_words.specs.declared.rules.Rule.TheVariants.{LabelWrite, Super}
+use Rattle.sys_types.specs.declared.rules.Rule.TheVariants.{LabelWrite, Super}
 use Rattle.access_rule.specs.Access.{is_superuser}
 use Rattle.machine_model.specs.NodeCalls.{chown_at, with_owner}
 use Rattle.machine_model.specs.Places.{node_dominates}

@@ -1,5 +1,5 @@
 use Rattle.std.proofs.Common.{◌≡◌, ◌≤◌, ℕ, List, None, option_map, Err, refl, ap, ◌∙◌, arith}
-use Rattle.call_words.specs.declared.limits.TheConstants.{FILE_SPACE}
+use Rattle.sys_types.specs.declared.limits.TheConstants.{FILE_SPACE}
 use Rattle.access_rule.specs.Contents.{with_written}
 use Rattle.access_rule.specs.Tree.{nodes_from, placed}
 use Rattle.vnode_tree.specs.declared.tree.WriteFault.{WriteFault}

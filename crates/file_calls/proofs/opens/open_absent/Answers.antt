@@ -1,5 +1,5 @@
 use Rattle.std.proofs.Common.{◌≡◌, List, [], ◌∷◌, ◌++◌, Option, None, ap, ◌∙◌, subst}
-use Rattle.call_words.specs.declared.node.Kind.TheVariants.{File}
+use Rattle.sys_types.specs.declared.node.Kind.TheVariants.{File}
 use Rattle.vnode_tree.specs.Nodes.{Named, IsLive, path_of, with_node}
 use Rattle.file_calls.proofs.Files.{file_open}
 use Rattle.file_calls.proofs.Kept.{AreKeptAt, IsKeptAt, made_kept, made_files, open_kept}

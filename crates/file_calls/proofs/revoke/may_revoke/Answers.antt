@@ -1,7 +1,7 @@
 use Rattle.std.proofs.Common.{◌≡◌, true, false, refl, sym, ap, ◌∙◌, Some}
 use Rattle.std.specs.Prelude.{is_none}
 use Rattle.std.proofs.lemmas.Bool.{not-false, not-true}
-use Rattle.call_words.specs.declared.node.Kind.{Kind}
+use Rattle.sys_types.specs.declared.node.Kind.{Kind}
 use Rattle.machine_model.specs.FileCalls.{tty_of}
 use Rattle.machine_model.specs.LineCalls.{revoke_at}
 use Rattle.machine_model.specs.Places.{node_dominates, is_not_owner}

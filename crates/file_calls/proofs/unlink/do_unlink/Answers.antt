@@ -1,7 +1,7 @@
 use Rattle.std.proofs.Common.{◌≡◌, ◌≢◌, ℕ, true, false, Some, None, refl, sym, ap, ◌∙◌}
 use Rattle.std.specs.List.{list_any}
-use Rattle.call_words.specs.declared.node.Kind.{Kind}
-use Rattle.call_words.specs.declared.rules.Rule.TheVariants.{LabelWrite, InUse}
+use Rattle.sys_types.specs.declared.node.Kind.{Kind}
+use Rattle.sys_types.specs.declared.rules.Rule.TheVariants.{LabelWrite, InUse}
 use Rattle.access_rule.specs.Tree.{is_dir_record, parent_of}
 use Rattle.machine_model.specs.PathCalls.{unlink_at, is_file_of}
 use Rattle.machine_model.specs.Places.{access_line, node_dominates}

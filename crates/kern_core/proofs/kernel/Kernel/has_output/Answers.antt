@@ -1,6 +1,6 @@
 use Rattle.std.proofs.Common.{not, length, ap, sym, ◌∙◌}
 use Rattle.std.specs.Prelude.{◌&&◌, ◌==◌}
-use Rattle.call_words.specs.declared.events.Event.TheVariants.{Take}
+use Rattle.call_words.specs.declared.event.Event.TheVariants.{Take}
 use Rattle.machine_model.specs.Step.{answer_to, gives_a_byte}
 use Rattle.kern_core.proofs.Lines.{wakes_line}
 use Rattle.kern_core.proofs.kernel.Kernel.has_output.Goals as goal

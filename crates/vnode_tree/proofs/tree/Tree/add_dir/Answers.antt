@@ -1,5 +1,5 @@
 use Rattle.std.proofs.Common.{◌∷◌, ◌++◌, [], List, ℕ, Some, ap, ◌∙◌, subst}
-use Rattle.call_words.specs.declared.node.Kind.TheVariants as kind
+use Rattle.sys_types.specs.declared.node.Kind.TheVariants as kind
 use Rattle.vnode_tree.specs.Standard.{IsMapOf, root_node, super_node}
 use Rattle.vnode_tree.proofs.tree.Tree.add_dir.Goals as goal
 

@@ -1,7 +1,7 @@
 use Rattle.std.proofs.Common.{◌∷◌, [], refl}
 use Rattle.std.specs.Prelude.{codes}
 use Rattle.label_core.specs.declared.element.Element.TheVariants as element
-use Rattle.call_words.specs.declared.node.Kind.TheVariants as kind
+use Rattle.sys_types.specs.declared.node.Kind.TheVariants as kind
 use Rattle.vnode_tree.specs.Nodes.{tree_of}
 use Rattle.vnode_tree.specs.Standard.{root_node, super_node, mode_755, mode_777}
 use Rattle.vnode_tree.proofs.Maps.{Stage, next_stage, dir_fits}

@@ -1,10 +1,10 @@
 use Rattle.std.proofs.Common.{◌≡◌, ◌∷◌, ◌++◌, ◌≤◌, ◌+◌, ℕ, List, [], length, map, take, get_or, ap, ap₂, ◌∙◌, arith, subst, length-append}
 use Rattle.std.specs.Prelude.{codes}
 use Rattle.label_core.specs.declared.element.Element.TheVariants as element
-use Rattle.call_words.specs.declared.node.Kind.TheVariants as kind
-use Rattle.call_words.specs.declared.image.Image.{Image}
-use Rattle.call_words.specs.declared.image.Image.TheVariants as image
-use Rattle.call_words.specs.Images.{images, image_name}
+use Rattle.sys_types.specs.declared.node.Kind.TheVariants as kind
+use Rattle.sys_types.specs.declared.image.Image.{Image}
+use Rattle.sys_types.specs.declared.image.Image.TheVariants as image
+use Rattle.sys_types.specs.Images.{images, image_name}
 use Rattle.vnode_tree.specs.Nodes.{Named}
 use Rattle.vnode_tree.specs.Standard.{IsMapOf, standard_dirs, image_node, image_text, bin_node, super_node, mode_755}
 use Rattle.vnode_tree.proofs.Maps.{held, keeps_on}

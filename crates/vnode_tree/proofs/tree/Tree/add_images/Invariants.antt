@@ -1,5 +1,5 @@
 use Rattle.std.proofs.Common.{◌≡◌, ◌++◌, Some, map, take}
-use Rattle.call_words.specs.Images.{images}
+use Rattle.sys_types.specs.Images.{images}
 use Rattle.vnode_tree.specs.Nodes.{named_at}
 use Rattle.vnode_tree.specs.Standard.{IsMapOf, Keeps, standard_dirs, image_node, bin_node}
 use Rattle.vnode_tree.proofs.tree.Tree.add_images.Given as goal

@@ -2,7 +2,7 @@ use Rattle.std.proofs.Common.{◌≡◌, ◌∷◌, ◌++◌, ◌≤◌, ◌+◌
 use Rattle.std.specs.Prelude.{codes}
 use Rattle.std.specs.List.{range_with_len}
 use Rattle.label_core.specs.declared.element.Element.TheVariants as element
-use Rattle.call_words.specs.declared.node.Kind.TheVariants as kind
+use Rattle.sys_types.specs.declared.node.Kind.TheVariants as kind
 use Rattle.vnode_tree.specs.Nodes.{Named}
 use Rattle.vnode_tree.specs.Standard.{IsMapOf, with_images, line_node, line_name, dev_node, super_node, mode_600, mode_666}
 use Rattle.vnode_tree.proofs.Maps.{held, keeps_on}

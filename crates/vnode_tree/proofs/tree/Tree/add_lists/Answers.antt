@@ -1,7 +1,7 @@
 use Rattle.std.proofs.Common.{◌∷◌, ◌++◌, ◌≤◌, ℕ, List, [], length, ap, arith, subst}
 use Rattle.std.specs.Prelude.{codes}
 use Rattle.label_core.specs.declared.element.Element.TheVariants as element
-use Rattle.call_words.specs.declared.node.Kind.TheVariants as kind
+use Rattle.sys_types.specs.declared.node.Kind.TheVariants as kind
 use Rattle.vnode_tree.specs.Nodes.{Named}
 use Rattle.vnode_tree.specs.Standard.{IsMapOf, with_lines, etc_node, super_node, mode_600, mode_644}
 use Rattle.vnode_tree.proofs.Maps.{held}

@@ -1,5 +1,5 @@
 use Rattle.std.proofs.Common.{◌≡◌, ◌++◌, ◌∷◌, [], List, ℕ, Option, Some, None, length, refl, ap, ap₂, ◌∙◌, subst, arith}
-use Rattle.call_words.specs.declared.node.Kind.TheVariants as kind
+use Rattle.sys_types.specs.declared.node.Kind.TheVariants as kind
 use Rattle.vnode_tree.specs.declared.entry.Entry.{Entry}
 use Rattle.access_rule.specs.declared.Attrs.{Attrs}
 use Rattle.vnode_tree.specs.Nodes.{Named}

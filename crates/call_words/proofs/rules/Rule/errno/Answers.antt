@@ -1,5 +1,0 @@
-use Rattle.std.proofs.Common.{rules}
-use Rattle.call_words.proofs.rules.Rule.errno.Goals as goal
-
-pub returns-in-Dead : goal.returns-in-Dead
-returns-in-Dead c = search rules
