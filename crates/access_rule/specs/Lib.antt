@@ -1,7 +1,1 @@
 pub mod Access
-pub mod Contents
-pub mod Listing
-pub mod NewNodes
-pub mod Paths
-pub mod Standard
-pub mod Tree

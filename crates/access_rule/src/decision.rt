@@ -4,7 +4,7 @@ ghost use Rattle.access_rule.specs.Access.{list_refuses, list_rule, refusal, all
 
 use crate::Attrs;
 use acl_core::{Cred, Perm};
-use call_words::Rule;
+use sys_types::Rule;
 use label_core::{Subject, dominates};
 
 /// Whether the list refuses. A superuser is refused nothing but to execute a file of which no

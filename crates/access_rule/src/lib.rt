@@ -2,10 +2,6 @@
 //!
 //! Labels are those of mac_mls(4), lists those of draft POSIX.1e. That the label comes before the
 //! list, and that a superuser is bound by labels, is this project's own.
-//!
-//! `specs/` also has the definitions of the file tree that the crates above share: the map from paths to nodes (`Tree`), the
-//! nodes of a boot (`Standard`), the rules of a path (`Paths`), new nodes (`NewNodes`), and what files and directories hold
-//! (`Contents`, `Listing`).
 #![tactic(auto)]
 
 ghost use Rattle.std.specs.Prelude.{◌≡◌};

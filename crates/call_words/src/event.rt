@@ -1,5 +1,6 @@
 //! One step of the kernel, and what it answers.
-ghost use Rattle.std.specs.Prelude.{◌≡◌, []};
+ghost use Rattle.std.specs.Prelude.{◌≡◌, ◌≤◌, [], length};
+ghost use Rattle.call_words.specs.Events.{reason_word};
 
 use crate::call::Call;
 use arrayvec::ArrayVec;
@@ -83,6 +84,25 @@ pub enum Reason {
     Stop,
     /// For a process in the slot.
     Begin,
+}
+
+impl Reason {
+    /// The word of the reason.
+    pub fn word(self) -> &'static [u8]
+        ensures word { result.now ≡ reason_word self }
+        ensures most { length result.now ≤ 7 }
+    {
+        match self {
+            Reason::Read => b"read",
+            Reason::Write => b"write",
+            Reason::Carrier => b"carrier",
+            Reason::Child => b"child",
+            Reason::Pause => b"pause",
+            Reason::Drain => b"drain",
+            Reason::Stop => b"stop",
+            Reason::Begin => b"begin",
+        }
+    }
 }
 
 /// What a call is answered.

@@ -27,10 +27,10 @@ pub use proc::WaitFlags;
 pub use program::{NoMemory, Program};
 pub use signal::{Action, To};
 pub use sys_types::{
-    DESCRIPTORS, Errno, FILE_SPACE, IMAGES, INPUT_PLACES, Image, InPlace, Kind, LINE_BLOCKS,
-    LINES, NAME_BYTES, NODES, Node, OPEN_FILES, OUTPUT_BYTES, PATH_BYTES, PATH_TEXT_BYTES,
-    PIECE_BYTES, PIPE_BLOCKS, PIPE_BYTES, PIPES, POOL_BLOCKS, PathText, Piece, READY_LINE_BYTES,
-    Rule, SCRIPT_LINE_BYTES, SIGNALS, SLOTS, Sig, TEXT_BYTES, TRAIL_EVENTS, TextBuf, push_bytes,
+    DESCRIPTORS, Errno, FILE_SPACE, IMAGES, INPUT_PLACES, Image, InPlace, Kind, LINE_BLOCKS, LINES,
+    NAME_BYTES, NODES, Node, OPEN_FILES, OUTPUT_BYTES, PATH_BYTES, PATH_TEXT_BYTES, PIECE_BYTES,
+    PIPE_BLOCKS, PIPE_BYTES, PIPES, POOL_BLOCKS, PathText, Piece, RAW_LINE, READY_LINE_BYTES, Rule,
+    SCRIPT_LINE_BYTES, SIGNALS, SLOTS, Sig, TEXT_BYTES, TRAIL_EVENTS, TextBuf, push_bytes,
     push_number,
 };
 pub use tty::{When, WhichQueue};

@@ -2,18 +2,18 @@
 use Rattle.std.proofs.Common.{◌≡◌, ℕ, Bool, true, false, List, Option, Some, None, option_map, refl, sym, ap, ◌∙◌}
 use Rattle.sys_types.specs.declared.rules.Rule.{Rule}
 use Rattle.access_rule.specs.Access.{refusal, allowed_unless}
-use Rattle.access_rule.specs.Paths.{access_rule}
+use Rattle.tree_model.specs.Paths.{access_rule}
 use Rattle.access_rule.specs.declared.Attrs.{Attrs}
 use Rattle.sys_types.specs.declared.node.Kind.TheVariants as kind
-use Rattle.access_rule.specs.Tree.{NodeRecord, at_path, nodes_from, is_dir, is_dir_record}
+use Rattle.tree_model.specs.Tree.{NodeRecord, at_path, nodes_from, is_dir, is_dir_record}
 use Rattle.machine_model.specs.PathCalls.{is_device, is_device_kind}
 use Rattle.machine_model.specs.Rows.{denied_by}
-use Rattle.vnode_tree.specs.Nodes.{Named, record_of, path_of}
+use Rattle.vnode_tree.specs.Nodes.{NodeAt, record_of, path_of}
 use Rattle.file_calls.specs.declared.caller.Caller.{Caller}
 use Rattle.file_calls.specs.Makes.{what_is, rule_of}
 
 -- the rule that denies access is that of what access depends on
-pub access_is : (nodes : List (Option Named)) (caller : Caller) (n : ℕ) (attrs : Attrs) (read write exec : Bool) → option_map (λ (r : NodeRecord). r.attrs) (record_of nodes n) ≡ Some attrs → record_of nodes n ≡ what_is nodes n → access_rule caller.cred caller.label (what_is nodes n) read write exec ≡ refusal caller.cred caller.label attrs read write exec
+pub access_is : (nodes : List (Option NodeAt)) (caller : Caller) (n : ℕ) (attrs : Attrs) (read write exec : Bool) → option_map (λ (r : NodeRecord). r.attrs) (record_of nodes n) ≡ Some attrs → record_of nodes n ≡ what_is nodes n → access_rule caller.cred caller.label (what_is nodes n) read write exec ≡ refusal caller.cred caller.label attrs read write exec
 access_is nodes caller n attrs read write exec is there =
     elim (what_is nodes n) as (λ o. option_map (λ (r : NodeRecord). r.attrs) o ≡ Some attrs → access_rule caller.cred caller.label o read write exec ≡ refusal caller.cred caller.label attrs read write exec) [
       | None ↦ λ e. absurd (let no : None ≡ Some attrs = e in cc)
@@ -36,5 +36,5 @@ is_plain o p is there =
     ] (ap (option_map (λ (r : NodeRecord). r.kind)) (sym there) ∙ is)
 
 -- a node may be taken from its directory
-pub parent_free : (nodes : List (Option Named)) (caller : Caller) (dir : ℕ) (place : List (List ℕ)) → access_rule caller.cred caller.label (what_is nodes dir) false true false ≡ None → path_of nodes dir ≡ place → denied_by (access_rule caller.cred caller.label (at_path (nodes_from nodes) place) false true false) ≡ None
+pub parent_free : (nodes : List (Option NodeAt)) (caller : Caller) (dir : ℕ) (place : List (List ℕ)) → access_rule caller.cred caller.label (what_is nodes dir) false true false ≡ None → path_of nodes dir ≡ place → denied_by (access_rule caller.cred caller.label (at_path (nodes_from nodes) place) false true false) ≡ None
 parent_free nodes caller dir place free here = rw (← here, free) refl

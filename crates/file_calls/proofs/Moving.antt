@@ -7,11 +7,11 @@ use Rattle.sys_types.specs.declared.rules.Rule.TheVariants.{LabelRead, LabelWrit
 use Rattle.call_words.specs.declared.event.Decision.TheVariants.{Answer}
 use Rattle.call_words.specs.declared.event.Reply.TheVariants.{Denied, Bytes, Num}
 use Rattle.call_words.specs.declared.event.Decision.{Decision}
-use Rattle.access_rule.specs.Tree.{NodeRecord}
+use Rattle.tree_model.specs.Tree.{NodeRecord}
 use Rattle.machine_model.specs.View.{OpenFile as SeenFile, Queues, View}
 use Rattle.machine_model.specs.Rows.{Row, bytes, number, Does}
 use Rattle.machine_model.specs.FileCalls.{file_at, may_not_read, may_not_write, read_of, read_row, write_of, write_row}
-use Rattle.vnode_tree.specs.Nodes.{Named, IsFile, is_file_record, record_of}
+use Rattle.vnode_tree.specs.Nodes.{NodeAt, IsFile, is_file_record, record_of}
 use Rattle.file_calls.specs.declared.caller.Caller.{Caller}
 use Rattle.file_calls.specs.declared.descriptors.OpenFile.{OpenFile}
 use Rattle.file_calls.specs.Moves.{IsLeftTo}
@@ -21,7 +21,7 @@ use Rattle.file_calls.proofs.Files.{seen_at}
 use Rattle.file_calls.proofs.Rows.{refuses, gives_early}
 
 -- the machine sees the file of a number
-pub seen_there : (nodes : List (Option Named)) (files : List (Option OpenFile)) (fd : ℕ) (f : OpenFile) (caller : Caller) (line : Queues) (recheck : Bool) → file_of files fd ≡ Some f → file_at (view_of nodes files caller line recheck) fd ≡ Some (seen_file nodes f)
+pub seen_there : (nodes : List (Option NodeAt)) (files : List (Option OpenFile)) (fd : ℕ) (f : OpenFile) (caller : Caller) (line : Queues) (recheck : Bool) → file_of files fd ≡ Some f → file_at (view_of nodes files caller line recheck) fd ≡ Some (seen_file nodes f)
 seen_there nodes files fd f caller line recheck at = seen_at nodes files fd ∙ ap (option_map (seen_file nodes)) at
 
 -- a row that is left to another is done as the other says
@@ -36,7 +36,7 @@ pub of_no_line : (files : List (Option OpenFile)) (fd : ℕ) (f : OpenFile) → 
 of_no_line files fd f other at = sym (ap (option_and_then (λ (g : OpenFile). g.tty)) at) ∙ other
 
 -- its node is a regular file
-pub of_file : (nodes : List (Option Named)) (f : OpenFile) → IsOpen nodes f → f.tty ≡ None → IsFile nodes f.node
+pub of_file : (nodes : List (Option NodeAt)) (f : OpenFile) → IsOpen nodes f → f.tty ≡ None → IsFile nodes f.node
 of_file nodes f is other =
     elim (record_of nodes f.node) as (λ o. option_map (λ (r : NodeRecord). r.kind) o ≡ Some (kind_for f.tty) → is_file_record o ≡ true) [
       | None ↦ λ e. absurd (let no : None ≡ Some (kind_for f.tty) = e in cc)

@@ -5,13 +5,13 @@ use Rattle.std.specs.List.{list_any}
 use Rattle.std.proofs.lemmas.Bool.Decides.{nat_tests}
 use Rattle.std.proofs.lemmas.Bool.{eqb-true, eq-eqb}
 use Rattle.sys_types.specs.declared.rules.Rule.TheVariants.{NotEmpty, InUse}
-use Rattle.access_rule.specs.Listing.{is_empty_dir}
-use Rattle.access_rule.specs.Tree.{NodeRecord, is_dir, is_dir_record, parent_of}
+use Rattle.tree_model.specs.Listing.{is_empty_dir}
+use Rattle.tree_model.specs.Tree.{NodeRecord, is_dir, is_dir_record, parent_of}
 use Rattle.machine_model.specs.View.{View}
 use Rattle.machine_model.specs.Places.{access_line, node_at, node_dominates}
 use Rattle.machine_model.specs.Rows.{Outcome, refused, line, first}
 use Rattle.machine_model.specs.PathCalls.{is_file_of, same_place, rmdir_at}
-use Rattle.vnode_tree.specs.Nodes.{Named, IsLive, named_at, path_in, path_of, record_of, same_path, tree_of, with_node, ChangesAt}
+use Rattle.vnode_tree.specs.Nodes.{NodeAt, IsLive, node_at, path_in, path_of, record_of, same_path, tree_of, with_node, ChangesAt}
 use Rattle.vnode_tree.proofs.Finite.{same_path_tied, named_other}
 use Rattle.vnode_tree.proofs.Trees.{path_refl, path_false}
 use Rattle.file_calls.specs.declared.descriptors.OpenFile.{OpenFile}
@@ -36,7 +36,7 @@ neither true b e = absurd cc
 neither false b e = (refl, e)
 
 -- a file of the node is a file at its path
-pub refers_seen : (nodes : List (Option Named)) (files : List (Option OpenFile)) (node : ℕ) → list_any (is_of node) files ≡ true → list_any (is_file_of (path_of nodes node)) (seen_files nodes files) ≡ true
+pub refers_seen : (nodes : List (Option NodeAt)) (files : List (Option OpenFile)) (node : ℕ) → list_any (is_of node) files ≡ true → list_any (is_file_of (path_of nodes node)) (seen_files nodes files) ≡ true
 refers_seen nodes [] node some = some
 refers_seen nodes (None ∷ files) node some = refers_seen nodes files node some
 refers_seen nodes (Some f ∷ files) node some =
@@ -63,7 +63,7 @@ none_refers (Some g ∷ files) node none zero f at = λ same.
 none_refers (x ∷ files) node none (suc fd) f at = none_refers files node (neither (is_of node x) (list_any (is_of node) files) none).1 fd f at
 
 -- so none is at its path, where no other node has it
-pub none_seen : (nodes : List (Option Named)) (files : List (Option OpenFile)) (node : ℕ) → ((fd : ℕ) (f : OpenFile) → file_of files fd ≡ Some f → path_of nodes node ≢ path_of nodes f.node) → list_any (is_file_of (path_of nodes node)) (seen_files nodes files) ≡ false
+pub none_seen : (nodes : List (Option NodeAt)) (files : List (Option OpenFile)) (node : ℕ) → ((fd : ℕ) (f : OpenFile) → file_of files fd ≡ Some f → path_of nodes node ≢ path_of nodes f.node) → list_any (is_file_of (path_of nodes node)) (seen_files nodes files) ≡ false
 none_seen nodes [] node apart = refl
 none_seen nodes (None ∷ files) node apart = none_seen nodes files node (λ fd f at. apart (suc fd) f at)
 none_seen nodes (Some f ∷ files) node apart =
@@ -71,7 +71,7 @@ none_seen nodes (Some f ∷ files) node apart =
 
 -- ---- the path of a node that goes
 
-some_there : (nodes : List (Option Named)) (n : ℕ) (named : Named) → named_at nodes n ≡ Some named → is_some (tree_of nodes named.path) ≡ true
+some_there : (nodes : List (Option NodeAt)) (n : ℕ) (named : NodeAt) → node_at nodes n ≡ Some named → is_some (tree_of nodes named.path) ≡ true
 unfolding tree_of
 some_there [] n named at = absurd (let never : None ≡ Some named = at in cc)
 some_there (None ∷ nodes) zero named at = absurd (let never : None ≡ Some named = at in cc)
@@ -86,12 +86,12 @@ some_there (Some other ∷ nodes) (suc n) named at =
     ]
 
 -- no other node has the path of one that goes
-pub alone : (old new : List (Option Named)) (n m : ℕ) → new ≡ with_node old n None → ChangesAt (path_of old n) None old new → IsLive old m → m ≢ n → path_of old n ≢ path_of old m
+pub alone : (old new : List (Option NodeAt)) (n m : ℕ) → new ≡ with_node old n None → ChangesAt (path_of old n) None old new → IsLive old m → m ≢ n → path_of old n ≢ path_of old m
 alone old new n m gone changes live apart = λ same.
-    elim (named_at old m) as (λ o. named_at old m ≡ o → IsSome o → ⊥) [
+    elim (node_at old m) as (λ o. node_at old m ≡ o → IsSome o → ⊥) [
       | None ↦ λ at some. absurd (let never : false ≡ true = some in cc)
       | Some named ↦ λ at some.
-          let there : named_at new m ≡ Some named = ap (λ (t : List (Option Named)). named_at t m) gone ∙ named_other old n m None apart ∙ at in
+          let there : node_at new m ≡ Some named = ap (λ (t : List (Option NodeAt)). node_at t m) gone ∙ named_other old n m None apart ∙ at in
           let path : path_of old n ≡ named.path = same ∙ ap path_in at in
           let none : tree_of new (path_of old n) ≡ None = changes.only (path_of old n) ∙ rw (path_refl (path_of old n)) refl in
           let has : is_some (tree_of new (path_of old n)) ≡ true = ap (λ (p : List (List ℕ)). is_some (tree_of new p)) path ∙ some_there new m named there in
@@ -99,7 +99,7 @@ alone old new n m gone changes live apart = λ same.
     ] refl live
 
 -- no open file is of a directory
-pub no_file_of_dir : (nodes : List (Option Named)) (files : List (Option OpenFile)) (node : ℕ) → is_dir_record (record_of nodes node) ≡ true → AreOpen nodes files → (fd : ℕ) (f : OpenFile) → file_of files fd ≡ Some f → f.node ≢ node
+pub no_file_of_dir : (nodes : List (Option NodeAt)) (files : List (Option OpenFile)) (node : ℕ) → is_dir_record (record_of nodes node) ≡ true → AreOpen nodes files → (fd : ℕ) (f : OpenFile) → file_of files fd ≡ Some f → f.node ≢ node
 no_file_of_dir nodes files node dir are fd f at = λ same.
     let kind : kind_of nodes node ≡ Some (kind_for f.tty) = ap (kind_of nodes) (sym same) ∙ (are.each fd f at).kind in
     elim (record_of nodes node) as (λ o. is_dir_record o ≡ true → option_map (λ (r : NodeRecord). r.kind) o ≡ Some (kind_for f.tty) → ⊥) [

@@ -4,8 +4,8 @@ use Rattle.sys_types.specs.declared.rules.Rule.{Rule}
 use Rattle.call_words.specs.declared.event.Decision.{Decision}
 use Rattle.call_words.specs.declared.event.Decision.TheVariants.{Answer}
 use Rattle.call_words.specs.declared.event.Reply.TheVariants.{Denied}
-use Rattle.access_rule.specs.Tree.{WalkEnd}
-use Rattle.access_rule.specs.Paths.{path_at}
+use Rattle.tree_model.specs.Tree.{WalkEnd}
+use Rattle.tree_model.specs.Paths.{path_at}
 use Rattle.machine_model.specs.View.{View}
 use Rattle.machine_model.specs.Effects.{change_all}
 use Rattle.machine_model.specs.Rows.{Given, Outcome, refused, early, Row, behind, first, decided, answered, done_by, Does}

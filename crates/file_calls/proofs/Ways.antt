@@ -3,19 +3,19 @@ use Rattle.std.proofs.Common.{◌≡◌, ℕ, ◌+◌, ◌<◌, true, false, Lis
 use Rattle.std.specs.Prelude.{is_some, nat_lt, ◌==◌, Result, IfOk, MatchResult}
 use Rattle.sys_types.specs.declared.rules.Rule.{Rule}
 use Rattle.access_rule.specs.Access.{first}
-use Rattle.vnode_tree.specs.Nodes.{Named, path_of, tree_of}
-use Rattle.access_rule.specs.Tree.{Tree, Walked, at_path, nodes_from, is_dir_record, is_parent, parent_of, steps, begin_at, walk_from, walk}
-use Rattle.access_rule.specs.Paths.{search_rule, part_lines, path_rule}
+use Rattle.vnode_tree.specs.Nodes.{NodeAt, path_of, tree_of}
+use Rattle.tree_model.specs.Tree.{Tree, PathWalk, at_path, nodes_from, is_dir_record, is_parent, parent_of, steps, begin_at, walk_from, walk}
+use Rattle.tree_model.specs.Paths.{search_rule, part_lines, path_rule}
 use Rattle.file_calls.specs.declared.caller.Caller.{Caller}
 use Rattle.vnode_tree.specs.declared.walk.Walk.{Walk}
-use Rattle.vnode_tree.specs.Walks.{seen, seen_end}
+use Rattle.vnode_tree.specs.Walks.{paths_of_walk, paths_of_end}
 use Rattle.vnode_tree.proofs.Finite.{tree_is}
 use Rattle.file_calls.specs.declared.place.Place.{Place}
 use Rattle.file_calls.specs.Makes.{rule_of}
 use Rattle.file_calls.specs.Places.{end_rule, search_rules, rule_from, seen_place, IsLivePlace, LeadsTo}
 
 -- the first rule of a walk: of a directory that it passes, or of its end
-abbrev pub walked_rule : Tree → Caller → Walked → Option Rule
+abbrev pub walked_rule : Tree → Caller → PathWalk → Option Rule
 walked_rule tree caller walked = first (search_rules tree caller walked.passed ∷ end_rule walked.end ∷ [])
 
 parts_are_walked : (tree : Tree) (caller : Caller) (here : List (List ℕ)) (parts : List (List ℕ)) → first (part_lines tree caller.cred caller.label here parts) ≡ walked_rule tree caller (walk_from tree here parts)
@@ -66,34 +66,34 @@ closed_here tree caller path dirs i n ruled within at is = rw (dirs_cons dirs i 
 pub open_here : (tree : Tree) (caller : Caller) (path : ℕ → List (List ℕ)) (dirs : List ℕ) (i n : ℕ) → i < length dirs → n ≡ get_or dirs i n → search_rule caller.cred caller.label (tree (path n)) ≡ None → search_rules tree caller (map path (drop i dirs)) ≡ search_rules tree caller (map path (drop (i + 1) dirs))
 open_here tree caller path dirs i n within at is = rw (dirs_cons dirs i n within at, is) refl
 
-seen_is : (nodes : List (Option Named)) (walk : Walk) (walked : Walked) → seen nodes walk ≡ walked → (map (path_of nodes) walk.passed.items ≡ walked.passed) × (seen_end nodes walk.end ≡ walked.end)
-seen_is nodes walk walked same = (ap (λ (w : Walked). w.passed) same, ap (λ (w : Walked). w.end) same)
+seen_is : (nodes : List (Option NodeAt)) (walk : Walk) (walked : PathWalk) → paths_of_walk nodes walk ≡ walked → (map (path_of nodes) walk.passed.items ≡ walked.passed) × (paths_of_end nodes walk.end ≡ walked.end)
+seen_is nodes walk walked same = (ap (λ (w : PathWalk). w.passed) same, ap (λ (w : PathWalk). w.end) same)
 
 -- the walk that the table gives is that of the map
-pub walked_in_map : (nodes : List (Option Named)) (here : List (List ℕ)) (text : List ℕ) (walked : Walk) → seen nodes walked ≡ walk (tree_of nodes) here text → seen nodes walked ≡ walk (at_path (nodes_from nodes)) here text
+pub walked_in_map : (nodes : List (Option NodeAt)) (here : List (List ℕ)) (text : List ℕ) (walked : Walk) → paths_of_walk nodes walked ≡ walk (tree_of nodes) here text → paths_of_walk nodes walked ≡ walk (at_path (nodes_from nodes)) here text
 walked_in_map nodes here text walked same = same ∙ ap (λ (tree : Tree). walk tree here text) (sym (tree_is nodes))
 
 -- a directory on the way denies
-pub denied_on_the_way : (nodes : List (Option Named)) (caller : Caller) (text : List ℕ) (walked : Walk) (ruled : Rule) → seen nodes walked ≡ walk (tree_of nodes) (path_of nodes caller.directory) text → Some ruled ≡ search_rules (at_path (nodes_from nodes)) caller (map (path_of nodes) walked.passed.items) → rule_from nodes caller text ≡ Some ruled
+pub denied_on_the_way : (nodes : List (Option NodeAt)) (caller : Caller) (text : List ℕ) (walked : Walk) (ruled : Rule) → paths_of_walk nodes walked ≡ walk (tree_of nodes) (path_of nodes caller.directory) text → Some ruled ≡ search_rules (at_path (nodes_from nodes)) caller (map (path_of nodes) walked.passed.items) → rule_from nodes caller text ≡ Some ruled
 denied_on_the_way nodes caller text walked ruled same closed =
     let tree : Tree = at_path (nodes_from nodes) in
-    let whole : Walked = walk tree (path_of nodes caller.directory) text in
+    let whole : PathWalk = walk tree (path_of nodes caller.directory) text in
     let is = seen_is nodes walked whole (walked_in_map nodes (path_of nodes caller.directory) text walked same) in
     let by : search_rules tree caller whole.passed ≡ Some ruled = ap (search_rules tree caller) (sym is.0) ∙ sym closed in
     path_is_walked tree caller (path_of nodes caller.directory) text ∙ rw by refl
 
 -- no directory on the way denies, so it is left to the end
-rule_at_end : (nodes : List (Option Named)) (caller : Caller) (text : List ℕ) (walked : Walk) → seen nodes walked ≡ walk (tree_of nodes) (path_of nodes caller.directory) text → None ≡ search_rules (at_path (nodes_from nodes)) caller (map (path_of nodes) walked.passed.items) → rule_from nodes caller text ≡ end_rule (seen_end nodes walked.end)
+rule_at_end : (nodes : List (Option NodeAt)) (caller : Caller) (text : List ℕ) (walked : Walk) → paths_of_walk nodes walked ≡ walk (tree_of nodes) (path_of nodes caller.directory) text → None ≡ search_rules (at_path (nodes_from nodes)) caller (map (path_of nodes) walked.passed.items) → rule_from nodes caller text ≡ end_rule (paths_of_end nodes walked.end)
 rule_at_end nodes caller text walked same free =
     let tree : Tree = at_path (nodes_from nodes) in
-    let whole : Walked = walk tree (path_of nodes caller.directory) text in
+    let whole : PathWalk = walk tree (path_of nodes caller.directory) text in
     let is = seen_is nodes walked whole (walked_in_map nodes (path_of nodes caller.directory) text walked same) in
     let none : search_rules tree caller whole.passed ≡ None = ap (search_rules tree caller) (sym is.0) ∙ sym free in
     let one : (o : Option Rule) → first (o ∷ []) ≡ o = λ o. elim o as (λ o. first (o ∷ []) ≡ o) [ None ↦ refl | Some r ↦ refl ] in
     path_is_walked tree caller (path_of nodes caller.directory) text ∙ rw none (one (end_rule whole.end) ∙ ap end_rule (sym is.1))
 
 -- the answer at the end
-pub leads : (nodes : List (Option Named)) (caller : Caller) (text : List ℕ) (walked : Walk) (answer : Result Place Rule) → seen nodes walked ≡ walk (tree_of nodes) (path_of nodes caller.directory) text → None ≡ search_rules (at_path (nodes_from nodes)) caller (map (path_of nodes) walked.passed.items) → IfOk answer (λ place. seen_end nodes walked.end ≡ seen_place nodes place) → IfOk answer (IsLivePlace nodes) → rule_of answer ≡ end_rule (seen_end nodes walked.end) → MatchResult answer (LeadsTo nodes caller text) (λ denied. rule_from nodes caller text ≡ Some denied)
+pub leads : (nodes : List (Option NodeAt)) (caller : Caller) (text : List ℕ) (walked : Walk) (answer : Result Place Rule) → paths_of_walk nodes walked ≡ walk (tree_of nodes) (path_of nodes caller.directory) text → None ≡ search_rules (at_path (nodes_from nodes)) caller (map (path_of nodes) walked.passed.items) → IfOk answer (λ place. paths_of_end nodes walked.end ≡ seen_place nodes place) → IfOk answer (IsLivePlace nodes) → rule_of answer ≡ end_rule (paths_of_end nodes walked.end) → MatchResult answer (LeadsTo nodes caller text) (λ denied. rule_from nodes caller text ≡ Some denied)
 leads nodes caller text walked (Err named) same free ends live ruled = rule_at_end nodes caller text walked same free ∙ sym ruled
 leads nodes caller text walked (Ok place) same free ends live ruled = record {
   allowed = rule_at_end nodes caller text walked same free ∙ sym ruled;

@@ -9,13 +9,13 @@ use Rattle.sys_types.specs.declared.limits.TheConstants.{FILE_SPACE}
 use Rattle.sys_types.specs.declared.rules.Rule.TheVariants.{FileSpace}
 use Rattle.call_words.specs.declared.event.Decision.TheVariants.{Answer}
 use Rattle.call_words.specs.declared.event.Reply.TheVariants.{Denied, Num}
-use Rattle.access_rule.specs.Contents.{with_written}
-use Rattle.access_rule.specs.Tree.{NodeRecord, Nodes, bytes_in, nodes_from, path_cmp, placed}
+use Rattle.tree_model.specs.Contents.{with_write}
+use Rattle.tree_model.specs.Tree.{NodeRecord, Nodes, bytes_in, nodes_from, path_cmp, with_node_at}
 use Rattle.machine_model.specs.View.{Queues}
 use Rattle.machine_model.specs.Effects.{change_all}
 use Rattle.machine_model.specs.Rows.{Does, answered, first, line, refused}
 use Rattle.machine_model.specs.FileCalls.{write_of, write_place, write_row}
-use Rattle.vnode_tree.specs.Nodes.{Named, IsFile, is_file_record, path_of, record_of, with_record}
+use Rattle.vnode_tree.specs.Nodes.{NodeAt, IsFile, is_file_record, path_of, record_of, with_record}
 use Rattle.vnode_tree.specs.declared.tree.WriteFault.{WriteFault}
 use Rattle.vnode_tree.specs.declared.tree.WriteFault.TheVariants.{Space, NoMemory}
 use Rattle.vnode_tree.proofs.Files.{length_written}
@@ -32,8 +32,8 @@ use Rattle.file_calls.proofs.Rows.{refuses, goes_on}
 -- ---- the place behind the bytes
 
 -- all files hold no less than one of them
-one_of_all : (path : List (List ℕ)) (node : NodeRecord) (nodes : Nodes) → length node.contents ≤ bytes_in (placed nodes path (Some node))
-unfolding bytes_in placed
+one_of_all : (path : List (List ℕ)) (node : NodeRecord) (nodes : Nodes) → length node.contents ≤ bytes_in (with_node_at nodes path (Some node))
+unfolding bytes_in with_node_at
 one_of_all path node [] = omega (arith, sum_by-cons (λ (n : List (List ℕ) × NodeRecord). length n.1.contents) (path, node) [])
 one_of_all path node (n ∷ nodes) =
     let f : List (List ℕ) × NodeRecord → ℕ = λ n. length n.1.contents in
@@ -44,9 +44,9 @@ one_of_all path node (n ∷ nodes) =
     ]
 
 -- the place behind the bytes is in what all files hold
-behind_in : (nodes : Nodes) (path : List (List ℕ)) (o : Option NodeRecord) (r : NodeRecord) (place : ℕ) (bs : List ℕ) → o ≡ Some r → 0 < length bs → place + length bs ≤ bytes_in (placed nodes path (option_map (with_written place bs) o))
+behind_in : (nodes : Nodes) (path : List (List ℕ)) (o : Option NodeRecord) (r : NodeRecord) (place : ℕ) (bs : List ℕ) → o ≡ Some r → 0 < length bs → place + length bs ≤ bytes_in (with_node_at nodes path (option_map (with_write place bs) o))
 behind_in nodes path o r place bs is some =
-    rw is (omega (arith, one_of_all path (with_written place bs r) nodes, length_written r.contents bs place some))
+    rw is (omega (arith, one_of_all path (with_write place bs r) nodes, length_written r.contents bs place some))
 
 -- a file that is there is some node
 file_there : (o : Option NodeRecord) → is_file_record o ≡ true → (r : NodeRecord) × (o ≡ Some r)
@@ -64,20 +64,20 @@ no_memory fault is e = cc
 -- ---- the row
 
 -- what a file is after the write
-abbrev whole : List (Option Named) → OpenFile → ℕ → List ℕ → Option NodeRecord
-whole nodes f place bs = option_map (with_written place bs) (record_of nodes f.node)
+abbrev whole : List (Option NodeAt) → OpenFile → ℕ → List ℕ → Option NodeRecord
+whole nodes f place bs = option_map (with_write place bs) (record_of nodes f.node)
 
 -- how many bytes all files hold then
-abbrev pub bytes_then : List (Option Named) → OpenFile → ℕ → List ℕ → ℕ
-bytes_then nodes f place bs = bytes_in (placed (nodes_from nodes) (path_of nodes f.node) (option_map (with_written place bs) (record_of nodes f.node)))
+abbrev pub bytes_then : List (Option NodeAt) → OpenFile → ℕ → List ℕ → ℕ
+bytes_then nodes f place bs = bytes_in (with_node_at (nodes_from nodes) (path_of nodes f.node) (option_map (with_write place bs) (record_of nodes f.node)))
 
 -- the place behind the bytes is in what all files hold then
-pub behind_bytes : (nodes : List (Option Named)) (f : OpenFile) (place : ℕ) (bs : List ℕ) → IsFile nodes f.node → 0 < length bs → place + length bs ≤ bytes_then nodes f place bs
+pub behind_bytes : (nodes : List (Option NodeAt)) (f : OpenFile) (place : ℕ) (bs : List ℕ) → IsFile nodes f.node → 0 < length bs → place + length bs ≤ bytes_then nodes f place bs
 behind_bytes nodes f place bs is some =
     let here = file_there (record_of nodes f.node) is in
     behind_in (nodes_from nodes) (path_of nodes f.node) (record_of nodes f.node) here.0 place bs here.1 some
 
-module _ (old : List (Option Named)) (files : List (Option OpenFile)) (caller : Caller) (lines : Queues) (recheck : Bool) (fd : ℕ) (bs : List ℕ) (f : OpenFile) (place : ℕ) (other : f.tty ≡ None) (there : record_of old f.node ≡ what_is old f.node) (at : place ≡ write_place (view_of old files caller lines recheck) (seen_file old f)) (left : IsLeftTo (write_row (view_of old files caller lines recheck) fd bs) (write_of (view_of old files caller lines recheck) fd bs (seen_file old f) f.tty)) where
+module _ (old : List (Option NodeAt)) (files : List (Option OpenFile)) (caller : Caller) (lines : Queues) (recheck : Bool) (fd : ℕ) (bs : List ℕ) (f : OpenFile) (place : ℕ) (other : f.tty ≡ None) (there : record_of old f.node ≡ what_is old f.node) (at : place ≡ write_place (view_of old files caller lines recheck) (seen_file old f)) (left : IsLeftTo (write_row (view_of old files caller lines recheck) fd bs) (write_of (view_of old files caller lines recheck) fd bs (seen_file old f) f.tty)) where
   only_space : first (write_row (view_of old files caller lines recheck) fd bs).lines ≡ first (line (nat_lt FILE_SPACE (bytes_then old f place bs)) (refused FileSpace) ∷ [])
   only_space = left.line ∙ rw (other, at, there) refl
 
@@ -90,15 +90,15 @@ module _ (old : List (Option Named)) (files : List (Option OpenFile)) (caller : 
   nothing_denied fits = only_space ∙ rw (le-ltb FILE_SPACE (bytes_then old f place bs) fits) refl
 
   -- the bytes are put
-  pub writes : (new : List (Option Named)) → new ≡ with_record (with_written place bs) old f.node → nodes_from new ≡ placed (nodes_from old) (path_of old f.node) (whole old f place bs) → bytes_then old f place bs ≤ FILE_SPACE → Does (view_of old files caller lines recheck) (view_of new (moved_to fd (place + length bs) files) caller lines recheck) (Answer (Num (length bs))) (write_row (view_of old files caller lines recheck) fd bs)
+  pub writes : (new : List (Option NodeAt)) → new ≡ with_record (with_write place bs) old f.node → nodes_from new ≡ with_node_at (nodes_from old) (path_of old f.node) (whole old f place bs) → bytes_then old f place bs ≤ FILE_SPACE → Does (view_of old files caller lines recheck) (view_of new (moved_to fd (place + length bs) files) caller lines recheck) (Answer (Num (length bs))) (write_row (view_of old files caller lines recheck) fd bs)
   writes new put map fits =
       let v = view_of old files caller lines recheck in
       let row = write_row v fd bs in
       let moved = moved_to fd (place + length bs) files in
-      let kept = changed_files (with_written place bs) old f.node moved (λ r. refl) in
-      let home = changed_kept (with_written place bs) old f.node caller.directory (λ r. refl) in
+      let kept = changed_files (with_write place bs) old f.node moved (λ r. refl) in
+      let home = changed_kept (with_write place bs) old f.node caller.directory (λ r. refl) in
       subst (λ d. Does v (view_of new moved caller lines recheck) d row) (ap answered left.answer ∙ rw other refl) (goes_on v _ row (nothing_denied fits)
       (view_changes old new moved caller lines recheck (path_of old f.node) (whole old f place bs) map (rw put kept) (rw put home)
-      ∙ ap (λ ds. record v { descriptors = ds; tree = placed (nodes_from old) (path_of old f.node) (whole old f place bs) }) (seen_moved old files fd (place + length bs))
+      ∙ ap (λ ds. record v { descriptors = ds; tree = with_node_at (nodes_from old) (path_of old f.node) (whole old f place bs) }) (seen_moved old files fd (place + length bs))
       ∙ rw (other, at, there) refl
       ∙ ap (change_all v) (sym left.effects)))

@@ -7,7 +7,7 @@ use Rattle.call_words.specs.Calls.{can_read, can_write}
 use Rattle.machine_model.specs.View.{View}
 use Rattle.machine_model.specs.Rows.{Outcome, line, refused}
 use Rattle.machine_model.specs.FileCalls.{lowest_free}
-use Rattle.vnode_tree.specs.Nodes.{Named, is_file_record, record_of, with_contents, with_record}
+use Rattle.vnode_tree.specs.Nodes.{NodeAt, is_file_record, record_of, with_contents, with_record}
 use Rattle.file_calls.specs.declared.descriptors.OpenFile.{OpenFile}
 
 -- a file as it is opened: of a node, or of the terminal line of a number
@@ -23,7 +23,7 @@ new_file node tty access flags = record {
 }
 
 -- the nodes, where an open that truncates has emptied a regular file
-abbrev pub cut : List (Option Named) → ℕ → OpenFlags → List (Option Named)
+abbrev pub cut : List (Option NodeAt) → ℕ → OpenFlags → List (Option NodeAt)
 cut nodes node flags = if flags.truncate && is_file_record (record_of nodes node) then with_record (with_contents []) nodes node else nodes
 
 -- no number is free

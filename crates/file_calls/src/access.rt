@@ -1,7 +1,7 @@
 //! Whether a caller may read, write or execute a node, and whether it owns it.
 ghost use Rattle.std.specs.Prelude.{◌≡◌, Bool, List, Option, not};
 ghost use Rattle.access_rule.specs.Access.{is_superuser};
-ghost use Rattle.access_rule.specs.Paths.{access_rule};
+ghost use Rattle.tree_model.specs.Paths.{access_rule};
 ghost use Rattle.machine_model.specs.View.{Queues};
 ghost use Rattle.machine_model.specs.Places.{dominates_node, node_dominates, is_not_owner};
 ghost use Rattle.vnode_tree.specs.Nodes.{IsLive};

@@ -1,6 +1,6 @@
 //! Changes of what access to a node depends on.
 ghost use Rattle.std.specs.Prelude.{◌≡◌, ◌≤◌, List, option_map};
-ghost use Rattle.access_rule.specs.Tree.{nodes_from, placed};
+ghost use Rattle.tree_model.specs.Tree.{nodes_from, with_node_at};
 ghost use Rattle.acl_core.specs.Acl.{acl_of};
 ghost use Rattle.acl_core.specs.declared.entry.Entry.{Entry};
 ghost use Rattle.machine_model.specs.NodeCalls.{with_bits, with_element, with_entries, with_owner};
@@ -18,7 +18,7 @@ pub(crate) fn set_mode(tree: &mut Tree, node: Node, mode: u16)
     requires live { IsLive tree.old node }
     requires mode { mode ≤ 0o777 }
     ensures set { tree.new ≡ with_record (with_bits mode) tree.old node }
-    ensures map { nodes_from tree.new ≡ placed (nodes_from tree.old) (path_of tree.old node) (option_map (with_bits mode) (what_is tree.old node)) }
+    ensures map { nodes_from tree.new ≡ with_node_at (nodes_from tree.old) (path_of tree.old node) (option_map (with_bits mode) (what_is tree.old node)) }
 {
     let attrs = tree.attrs(node);
     let changed = Attrs {
@@ -32,7 +32,7 @@ pub(crate) fn set_mode(tree: &mut Tree, node: Node, mode: u16)
 pub(crate) fn set_owner(tree: &mut Tree, node: Node, uid: u32, gid: u32)
     requires { IsLive tree.old node }
     ensures set { tree.new ≡ with_record (with_owner uid gid) tree.old node }
-    ensures map { nodes_from tree.new ≡ placed (nodes_from tree.old) (path_of tree.old node) (option_map (with_owner uid gid) (what_is tree.old node)) }
+    ensures map { nodes_from tree.new ≡ with_node_at (nodes_from tree.old) (path_of tree.old node) (option_map (with_owner uid gid) (what_is tree.old node)) }
 {
     let changed = Attrs {
         owner: uid,
@@ -46,7 +46,7 @@ pub(crate) fn set_owner(tree: &mut Tree, node: Node, uid: u32, gid: u32)
 pub(crate) fn set_element(tree: &mut Tree, node: Node, element: &Element)
     requires { IsLive tree.old node }
     ensures set { tree.new ≡ with_record (with_element element.now) tree.old node }
-    ensures map { nodes_from tree.new ≡ placed (nodes_from tree.old) (path_of tree.old node) (option_map (with_element element.now) (what_is tree.old node)) }
+    ensures map { nodes_from tree.new ≡ with_node_at (nodes_from tree.old) (path_of tree.old node) (option_map (with_element element.now) (what_is tree.old node)) }
 {
     let changed = Attrs {
         element: element.copy(),
@@ -60,7 +60,7 @@ pub(crate) fn set_element(tree: &mut Tree, node: Node, element: &Element)
 pub(crate) fn set_list(tree: &mut Tree, node: Node, which: WhichList, made: Result<Acl, AclFault>)
     requires { IsLive tree.old node }
     ensures set { (entries : List Entry) → made ≡ acl_of entries → tree.new ≡ with_record (with_entries which entries) tree.old node }
-    ensures map { (entries : List Entry) → made ≡ acl_of entries → nodes_from tree.new ≡ placed (nodes_from tree.old) (path_of tree.old node) (option_map (with_entries which entries) (what_is tree.old node)) }
+    ensures map { (entries : List Entry) → made ≡ acl_of entries → nodes_from tree.new ≡ with_node_at (nodes_from tree.old) (path_of tree.old node) (option_map (with_entries which entries) (what_is tree.old node)) }
 {
     let attrs = tree.attrs(node);
     match which {

@@ -1,7 +1,7 @@
 //! The calls on directories: chdir(2), mkdir(2), rmdir(2), readdir(3).
 ghost use Rattle.std.specs.Prelude.{◌≡◌, ◌≤◌, Bool, List, Option, IsTrue};
-ghost use Rattle.access_rule.specs.Tree.{is_dir_record, nodes_from};
-ghost use Rattle.access_rule.specs.Listing.{names_under, names_text};
+ghost use Rattle.tree_model.specs.Tree.{is_dir_record, nodes_from};
+ghost use Rattle.tree_model.specs.Listing.{names_under, names_text};
 ghost use Rattle.machine_model.specs.View.{Queues};
 ghost use Rattle.machine_model.specs.Rows.{Does};
 ghost use Rattle.machine_model.specs.PathCalls.{chdir_row, list_row, mkdir_row, rmdir_row};

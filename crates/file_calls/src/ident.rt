@@ -7,7 +7,7 @@ ghost use Rattle.call_words.specs.Groups.{groups_word};
 ghost use Rattle.machine_model.specs.CallerCalls.{ident_text, ident_row};
 ghost use Rattle.machine_model.specs.Rows.{Does};
 ghost use Rattle.machine_model.specs.View.{Queues};
-ghost use Rattle.vnode_tree.specs.Nodes.{Named};
+ghost use Rattle.vnode_tree.specs.Nodes.{NodeAt};
 ghost use Rattle.file_calls.specs.declared.descriptors.OpenFile.{OpenFile};
 ghost use Rattle.file_calls.specs.Views.{seen_caller, view_of};
 
@@ -65,7 +65,7 @@ fn push_part(out: &mut Text, number: u32)
 /// What is told of a caller. Its process is the one process, of number 1.
 #[tactic(auto, unfolding(machine_model::specs::CallerCalls::ident_text))]
 fn ident(caller: &Caller) -> TextBuf
-    ensures { (nodes : List (Option Named)) → result ≡ ident_text (seen_caller nodes caller.now) }
+    ensures { (nodes : List (Option NodeAt)) → result ≡ ident_text (seen_caller nodes caller.now) }
 {
     let mut out = ArrayVec::new();
     push_bytes(&mut out, b"1");
@@ -82,7 +82,7 @@ fn ident(caller: &Caller) -> TextBuf
 /// fits 4,096 bytes. PID is 1; GROUPS are the supplementary groups as they were given, joined by `+`, or `-` where there is
 /// none.
 pub fn do_ident(caller: &Caller) -> Decision
-    ensures { (nodes : List (Option Named)) (files : List (Option OpenFile)) (line : Queues) (recheck : Bool) → Does (view_of nodes files caller.now line recheck) (view_of nodes files caller.now line recheck) result (ident_row (view_of nodes files caller.now line recheck)) }
+    ensures { (nodes : List (Option NodeAt)) (files : List (Option OpenFile)) (line : Queues) (recheck : Bool) → Does (view_of nodes files caller.now line recheck) (view_of nodes files caller.now line recheck) result (ident_row (view_of nodes files caller.now line recheck)) }
 {
     text(ident(caller))
 }

@@ -1,6 +1,6 @@
 //! The calls on the lists of a node: acl_set_file(3), acl_get_file(3).
 ghost use Rattle.std.specs.Prelude.{◌≡◌, ◌&&◌, Bool, List, Option, not};
-ghost use Rattle.access_rule.specs.Tree.{is_dir_record};
+ghost use Rattle.tree_model.specs.Tree.{is_dir_record};
 ghost use Rattle.acl_core.specs.Acl.{acl_of};
 ghost use Rattle.machine_model.specs.NodeCalls.{is_default, is_bad_list, acl_text, setacl_row, getacl_row};
 ghost use Rattle.machine_model.specs.Rows.{Does};

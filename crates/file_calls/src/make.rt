@@ -1,8 +1,8 @@
 //! New nodes.
 ghost use Rattle.std.specs.Prelude.{◌≡◌, ◌≤◌, ◌++◌, ◌∷◌, [], None, option_copied, IfOk, OnOk, OnErr};
-ghost use Rattle.access_rule.specs.NewNodes.{new_list, new_default};
-ghost use Rattle.access_rule.specs.Tree.{nodes_from, placed};
-ghost use Rattle.vnode_tree.specs.Nodes.{IsLive, named_at, path_of, with_node};
+ghost use Rattle.tree_model.specs.NewNodes.{new_list, new_default};
+ghost use Rattle.tree_model.specs.Tree.{nodes_from, with_node_at};
+ghost use Rattle.vnode_tree.specs.Nodes.{IsLive, node_at, path_of, with_node};
 ghost use Rattle.vnode_tree.specs.Walks.{IsFree};
 ghost use Rattle.file_calls.specs.Makes.{made_node, denied_make, rule_of, named_as};
 
@@ -54,10 +54,10 @@ pub fn make_node(
     requires mode { mode ≤ 0o777 }
     ensures denied { rule_of result ≡ denied_make tree.old caller.now dir }
     ensures nothing { OnErr result (tree.new ≡ tree.old) }
-    ensures unused { IfOk result (λ node. named_at tree.old node ≡ None) }
-    ensures made { IfOk result (λ node. tree.new ≡ with_node tree.old node (named_as (path_of tree.old dir ++ name.now ∷ []) (made_node tree.old caller.now dir kind mode))) }
+    ensures unused { IfOk result (λ node. node_at tree.old node ≡ None) }
+    ensures new_node { IfOk result (λ node. tree.new ≡ with_node tree.old node (named_as (path_of tree.old dir ++ name.now ∷ []) (made_node tree.old caller.now dir kind mode))) }
     ensures live { IfOk result (IsLive tree.new) }
-    ensures map { OnOk result (nodes_from tree.new ≡ placed (nodes_from tree.old) (path_of tree.old dir ++ name.now ∷ []) (made_node tree.old caller.now dir kind mode)) }
+    ensures map { OnOk result (nodes_from tree.new ≡ with_node_at (nodes_from tree.old) (path_of tree.old dir ++ name.now ∷ []) (made_node tree.old caller.now dir kind mode)) }
 {
     check(tree, caller, dir, false, true, false)?;
     let default = tree.default_list(dir);

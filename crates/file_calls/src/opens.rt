@@ -1,11 +1,11 @@
 //! Descriptors are opened and closed: open(2), close(2).
 ghost use Rattle.std.specs.Prelude.{◌≡◌, ◌≤◌, ◌∷◌, [], ℕ, Bool, ◌&&◌, if◌then◌else◌, List, Option, None, Some, option_map, IfOk};
-ghost use Rattle.access_rule.specs.Tree.{found, absent, nodes_from, placed};
+ghost use Rattle.tree_model.specs.Tree.{found, absent, nodes_from, with_node_at};
 ghost use Rattle.machine_model.specs.View.{Queues};
 ghost use Rattle.machine_model.specs.Rows.{Does, first, denied_by};
 ghost use Rattle.machine_model.specs.FileCalls.{flags_clash, is_plain_file, no_contents, open_at, open_row, close_row};
 ghost use Rattle.machine_model.specs.FileCalls as machine;
-ghost use Rattle.vnode_tree.specs.Nodes.{Named, IsLive, path_of};
+ghost use Rattle.vnode_tree.specs.Nodes.{NodeAt, IsLive, path_of};
 ghost use Rattle.vnode_tree.specs.Walks.{IsFree};
 ghost use Rattle.file_calls.specs.declared.caller.Caller.{Caller};
 ghost use Rattle.file_calls.specs.declared.descriptors.OpenFile.{OpenFile};
@@ -96,7 +96,7 @@ fn truncate(tree: &mut Tree, node: Node, flags: OpenFlags)
     ensures cut { tree.new ≡ cut tree.old node flags }
     ensures map { nodes_from tree.new ≡
         (if flags.truncate && is_plain_file (what_is tree.old node)
-        then placed (nodes_from tree.old) (path_of tree.old node) (option_map no_contents (what_is tree.old node))
+        then with_node_at (nodes_from tree.old) (path_of tree.old node) (option_map no_contents (what_is tree.old node))
         else nodes_from tree.old) }
 {
     if flags.truncate && tree.is_file(node) {
@@ -216,10 +216,10 @@ pub fn do_open(
 /// Denied by `BadFd`, where the number has no file; then nothing changes.
 pub fn do_close(fds: &mut Descriptors, fd: u8) -> Decision
     requires { tty_of fds.old fd ≡ None }
-    ensures does { (nodes : List (Option Named)) (caller : Caller) (line : Queues) (recheck : Bool) →
+    ensures does { (nodes : List (Option NodeAt)) (caller : Caller) (line : Queues) (recheck : Bool) →
         let old = view_of nodes fds.old caller line recheck in
         Does old (view_of nodes fds.new caller line recheck) result (close_row old fd) }
-    ensures open_files { (nodes : List (Option Named)) → AreOpen nodes fds.old → AreOpen nodes fds.new }
+    ensures open_files { (nodes : List (Option NodeAt)) → AreOpen nodes fds.old → AreOpen nodes fds.new }
 {
     if fds.get(fd).is_none() {
         return denied(Rule::BadFd);

@@ -1,8 +1,8 @@
 //! What stands at a path.
 ghost use Rattle.std.specs.Prelude.{◌≡◌, List, Option, All, IfOk, MatchResult, map};
-ghost use Rattle.access_rule.specs.Tree.{at_path, nodes_from};
-ghost use Rattle.vnode_tree.specs.Nodes.{Named, IsLive, path_of};
-ghost use Rattle.vnode_tree.specs.Walks.{seen_end, IsLiveEnd};
+ghost use Rattle.tree_model.specs.Tree.{at_path, nodes_from};
+ghost use Rattle.vnode_tree.specs.Nodes.{NodeAt, IsLive, path_of};
+ghost use Rattle.vnode_tree.specs.Walks.{paths_of_end, IsLiveEnd};
 ghost use Rattle.file_calls.specs.Makes.{rule_of};
 ghost use Rattle.file_calls.specs.Places.{LeadsTo, LeadsToNode, rule_from, node_rule_from, seen_place, IsLivePlace, end_rule, search_rules};
 
@@ -22,9 +22,9 @@ pub enum Place {
 
 /// The place at the end of a walk, or the rule by which the end denies.
 fn place_of(end: End) -> Result<Place, Rule>
-    ensures place { (nodes : List (Option Named)) → IfOk result (λ place. seen_end nodes end ≡ seen_place nodes place) }
-    ensures denied { (nodes : List (Option Named)) → rule_of result ≡ end_rule (seen_end nodes end) }
-    ensures live { (nodes : List (Option Named)) → IsLiveEnd nodes end → IfOk result (IsLivePlace nodes) }
+    ensures place { (nodes : List (Option NodeAt)) → IfOk result (λ place. paths_of_end nodes end ≡ seen_place nodes place) }
+    ensures denied { (nodes : List (Option NodeAt)) → rule_of result ≡ end_rule (paths_of_end nodes end) }
+    ensures live { (nodes : List (Option NodeAt)) → IsLiveEnd nodes end → IfOk result (IsLivePlace nodes) }
 {
     match end {
         End::Found(node) => Ok(Place::Found(node)),

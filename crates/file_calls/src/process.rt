@@ -3,7 +3,7 @@ ghost use Rattle.std.specs.Prelude.{◌≡◌, Bool, List, Option};
 ghost use Rattle.machine_model.specs.CallerCalls.{setcred_row, setproclabel_row, umask_row};
 ghost use Rattle.machine_model.specs.Rows.{Does};
 ghost use Rattle.machine_model.specs.View.{Queues};
-ghost use Rattle.vnode_tree.specs.Nodes.{Named};
+ghost use Rattle.vnode_tree.specs.Nodes.{NodeAt};
 ghost use Rattle.file_calls.specs.declared.descriptors.OpenFile.{OpenFile};
 ghost use Rattle.file_calls.specs.Views.{view_of};
 
@@ -19,7 +19,7 @@ use label_core::{Subject, may_become};
 /// Denied by `Super`, where the caller's uid is not 0.
 pub fn do_setcred(caller: &mut Caller, cred: &Cred) -> Decision
     ensures directory { caller.new.directory ≡ caller.old.directory }
-    ensures does { (nodes : List (Option Named)) (files : List (Option OpenFile)) (line : Queues) (recheck : Bool) → Does (view_of nodes files caller.old line recheck) (view_of nodes files caller.new line recheck) result (setcred_row (view_of nodes files caller.old line recheck) cred.now) }
+    ensures does { (nodes : List (Option NodeAt)) (files : List (Option OpenFile)) (line : Queues) (recheck : Bool) → Does (view_of nodes files caller.old line recheck) (view_of nodes files caller.new line recheck) result (setcred_row (view_of nodes files caller.old line recheck) cred.now) }
 {
     if !is_superuser(caller) {
         return denied(Rule::Super);
@@ -34,7 +34,7 @@ pub fn do_setcred(caller: &mut Caller, cred: &Cred) -> Decision
 /// range, or has the element `equal` that the caller's has not.
 pub fn do_setproclabel(caller: &mut Caller, subject: &Subject) -> Decision
     ensures directory { caller.new.directory ≡ caller.old.directory }
-    ensures does { (nodes : List (Option Named)) (files : List (Option OpenFile)) (line : Queues) (recheck : Bool) → Does (view_of nodes files caller.old line recheck) (view_of nodes files caller.new line recheck) result (setproclabel_row (view_of nodes files caller.old line recheck) subject.now) }
+    ensures does { (nodes : List (Option NodeAt)) (files : List (Option OpenFile)) (line : Queues) (recheck : Bool) → Does (view_of nodes files caller.old line recheck) (view_of nodes files caller.new line recheck) result (setproclabel_row (view_of nodes files caller.old line recheck) subject.now) }
 {
     if !may_become(&caller.label, subject) {
         return denied(Rule::Proclabel);
@@ -46,7 +46,7 @@ pub fn do_setproclabel(caller: &mut Caller, subject: &Subject) -> Decision
 /// umask(2): the bits of a mode that new nodes do not get from now on. Answers those before.
 pub fn do_umask(caller: &mut Caller, mode: u16) -> Decision
     ensures directory { caller.new.directory ≡ caller.old.directory }
-    ensures does { (nodes : List (Option Named)) (files : List (Option OpenFile)) (line : Queues) (recheck : Bool) → Does (view_of nodes files caller.old line recheck) (view_of nodes files caller.new line recheck) result (umask_row (view_of nodes files caller.old line recheck) mode) }
+    ensures does { (nodes : List (Option NodeAt)) (files : List (Option OpenFile)) (line : Queues) (recheck : Bool) → Does (view_of nodes files caller.old line recheck) (view_of nodes files caller.new line recheck) result (umask_row (view_of nodes files caller.old line recheck) mode) }
 {
     let before = caller.umask;
     caller.umask = mode;

@@ -6,8 +6,8 @@ use Rattle.call_words.specs.declared.event.Reply.TheVariants.{Num}
 use Rattle.call_words.specs.declared.event.Decision.TheVariants.{Answer, Taken, Noted}
 use Rattle.sys_types.specs.declared.rules.Rule.TheVariants.{BadFd}
 use Rattle.user_db.specs.declared.boot.Boot.{Boot}
-use Rattle.access_rule.specs.Tree.{nodes_from}
-use Rattle.access_rule.specs.Standard.{standard_tree}
+use Rattle.tree_model.specs.Tree.{nodes_from}
+use Rattle.tree_model.specs.Standard.{standard_tree}
 use Rattle.machine_model.specs.State.{boot, first_caller}
 use Rattle.machine_model.specs.View.{OpenFile as SeenFile, Queues, view}
 use Rattle.machine_model.specs.Effects.{change_all, dropped, emptied}
@@ -16,7 +16,7 @@ use Rattle.machine_model.specs.FileCalls.{file_at, is_live, any_live, is_last_li
 use Rattle.machine_model.specs.LineCalls.{byte_row, take_row}
 use Rattle.machine_model.specs.Step.{answer_to, gives_a_byte, is_regular}
 use Rattle.machine_model.proofs.Waking.{gives-take}
-use Rattle.vnode_tree.specs.Nodes.{Named, path_of}
+use Rattle.vnode_tree.specs.Nodes.{NodeAt, path_of}
 use Rattle.file_calls.specs.declared.caller.Caller.{Caller}
 use Rattle.file_calls.specs.declared.descriptors.OpenFile.{OpenFile}
 use Rattle.file_calls.specs.OpenFiles as own
@@ -32,7 +32,7 @@ some_number (Some n) h = refl
 pub of_line : (files : List (Option OpenFile)) (fd : ℕ) (f : OpenFile) (o : Option ℕ) (none : Bool) → own.file_of files fd ≡ Some f → o ≡ own.tty_of files fd → is_some o ≡ not none → none ≡ false → is_some f.tty ≡ true
 of_line files fd f o none here is some not_none = ap is_some (sym (is ∙ ap (option_and_then (λ (file : OpenFile). file.tty)) here)) ∙ some ∙ ap not not_none
 
-module _ (nodes : List (Option Named)) (files : List (Option OpenFile)) (caller : Caller) (queues : Queues) (recheck : Bool) where
+module _ (nodes : List (Option NodeAt)) (files : List (Option OpenFile)) (caller : Caller) (queues : Queues) (recheck : Bool) where
   -- a byte is dropped, or joins the input
   pub byte_dropped : (b : ℕ) → own.any_live files ≡ false → Does (view_of nodes files caller queues recheck) (view_of nodes files caller queues recheck) Noted (byte_row (view_of nodes files caller queues recheck) b)
   byte_dropped b dead =
@@ -84,7 +84,7 @@ module _ (nodes : List (Option Named)) (files : List (Option OpenFile)) (caller 
   wakes_line = gives-take (view_of nodes files caller queues recheck) ∙ ap (λ b. b && not (length queues.output == 0)) (seen_live nodes files)
 
 -- the tables as they stand at boot
-pub seen_boot : (says : Boot) (nodes : List (Option Named)) (caller : Caller) → nodes_from nodes ≡ standard_tree says → path_of nodes caller.directory ≡ [] → caller.cred ≡ first_caller.cred → caller.label ≡ first_caller.label → caller.umask ≡ 18
+pub seen_boot : (says : Boot) (nodes : List (Option NodeAt)) (caller : Caller) → nodes_from nodes ≡ standard_tree says → path_of nodes caller.directory ≡ [] → caller.cred ≡ first_caller.cred → caller.label ≡ first_caller.label → caller.umask ≡ 18
     → view_of nodes (replicate 32 None) caller (record { input = []; output = [] }) says.recheck ≡ view (boot says)
 unfolding boot
 seen_boot says nodes caller tree home cred label umask = rw (tree, home, cred, label, umask) refl
@@ -102,7 +102,7 @@ none_false None seen same none some = cc
 none_false (Some f) seen same none some = ap is_none (same f ∙ none)
 
 -- a write that no line denies, to a number that is none of the line, is one to a regular file
-pub is_regular_file : (nodes : List (Option Named)) (files : List (Option OpenFile)) (caller : Caller) (queues : Queues) (recheck : Bool) (fd : ℕ) (bs : List ℕ) → own.tty_of files fd ≡ None → first (write_row (view_of nodes files caller queues recheck) fd bs).lines ≡ None → is_regular (file_at (view_of nodes files caller queues recheck) fd) ≡ true
+pub is_regular_file : (nodes : List (Option NodeAt)) (files : List (Option OpenFile)) (caller : Caller) (queues : Queues) (recheck : Bool) (fd : ℕ) (bs : List ℕ) → own.tty_of files fd ≡ None → first (write_row (view_of nodes files caller queues recheck) fd bs).lines ≡ None → is_regular (file_at (view_of nodes files caller queues recheck) fd) ≡ true
 is_regular_file nodes files caller queues recheck fd bs none free =
     let v = view_of nodes files caller queues recheck in
     let seen = seen_at nodes files fd in

@@ -5,8 +5,8 @@ use Rattle.std.specs.Ordering.{eq_by_cmp, is_eq}
 use Rattle.std.specs.FinMap.Entries.{find, find-put, find-where_key}
 use Rattle.std.proofs.lemmas.Cmp.{nat_list_cmp_total, lists_total, alike_right, tied_itself}
 use Rattle.label_core.proofs.Dominance.{dom_refl}
-use Rattle.access_rule.specs.Paths.{access_rule, path_rule}
-use Rattle.access_rule.specs.NewNodes.{made_in}
+use Rattle.tree_model.specs.Paths.{access_rule, path_rule}
+use Rattle.tree_model.specs.NewNodes.{new_in_dir}
 use Rattle.label_core.specs.Element.{dom}
 use Rattle.label_core.specs.declared.subject.Subject.{Subject}
 use Rattle.acl_core.specs.declared.cred.Cred.{Cred}
@@ -22,7 +22,7 @@ use Rattle.sys_types.specs.declared.rules.Rule.{Rule}
 use Rattle.sys_types.specs.declared.rules.Rule.TheVariants.{Exists, IsDir, NoTty, NotReady, FdRoom, Flags, LabelRead, LabelWrite}
 use Rattle.access_rule.specs.declared.Attrs.{Attrs}
 use Rattle.access_rule.specs.Access as rules
-use Rattle.access_rule.specs.Tree.{NodeRecord, is_dir_record, Nodes, WalkEnd, found, absent, missing, not_dir, name_long, path_long, path_cmp, at_path, placed}
+use Rattle.tree_model.specs.Tree.{NodeRecord, is_dir_record, Nodes, WalkEnd, found, absent, missing, not_dir, name_long, path_long, path_cmp, at_path, with_node_at}
 use Rattle.machine_model.specs.State.{File, Caller}
 use Rattle.machine_model.specs.View.{OpenFile, View}
 use Rattle.machine_model.specs.Effects.{Effect, opened, made, dropped, moved, killed, emptied, came, given, put, sent, at, became, change_all}
@@ -94,8 +94,8 @@ tied_to_itself : (path : List (List ℕ)) → eq_by_cmp path_cmp path path ≡ t
 tied_to_itself path = ap is_eq (tied_itself (lists_total nat_list_cmp_total) path)
 
 -- what was put at a path is there
-placed_here : (nodes : Nodes) (path : List (List ℕ)) (now : Option NodeRecord) → at_path (placed nodes path now) path ≡ now
-unfolding at_path placed
+placed_here : (nodes : Nodes) (path : List (List ℕ)) (now : Option NodeRecord) → at_path (with_node_at nodes path now) path ≡ now
+unfolding at_path with_node_at
 placed_here nodes path (Some node) = find-put path_cmp (lists_total nat_list_cmp_total) path path node nodes ∙ ap (λ b. cond b (Some node) (find path_cmp path nodes)) (tied_to_itself path)
 placed_here nodes path None =
     find-where_key path_cmp (λ p. not (eq_by_cmp path_cmp path p)) path (λ p tied. ap (λ r. not (is_eq r)) (sym (alike_right (lists_total nat_list_cmp_total) path p path tied))) nodes
@@ -123,7 +123,7 @@ same_caller v w (Some a) read write same h = record {
 }
 
 -- a node that the caller makes has the caller's active element
-made_allowed : (v : View) (dir : Option NodeRecord) (mode : ℕ) (read write : Bool) → Allowed v (attrs_of (made_in v.caller.cred v.caller.label v.caller.umask dir kind.File mode)) read write
+made_allowed : (v : View) (dir : Option NodeRecord) (mode : ℕ) (read write : Bool) → Allowed v (attrs_of (new_in_dir v.caller.cred v.caller.label v.caller.umask dir kind.File mode)) read write
 made_allowed v None mode read write = record { reads = λ _. refl; writes = λ _. refl }
 made_allowed v (Some d) mode read write = record { reads = λ _. dom_refl v.caller.label.active; writes = λ _. dom_refl v.caller.label.active }
 

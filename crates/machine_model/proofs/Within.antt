@@ -7,7 +7,7 @@ use Rattle.call_words.specs.declared.open.Access.{Access}
 use Rattle.call_words.specs.declared.open.OpenFlags.{OpenFlags}
 use Rattle.call_words.specs.declared.call.Call.{Call}
 use Rattle.call_words.specs.declared.call.Call.TheVariants as call
-use Rattle.access_rule.specs.Tree.{WalkEnd, found, absent, missing, not_dir, name_long, path_long}
+use Rattle.tree_model.specs.Tree.{WalkEnd, found, absent, missing, not_dir, name_long, path_long}
 use Rattle.user_db.specs.declared.boot.Boot.{Boot}
 use Rattle.machine_model.specs.State.{Tagged, File, State, boot}
 use Rattle.machine_model.specs.View.{OpenFile, View, view}

@@ -1,6 +1,6 @@
 -- The elementary changes that events make, each with its meaning on a state and on a view.
 use Rattle.std.specs.Prelude.{ℕ, false, is_some, List, [], ◌∷◌, ◌++◌, ◌==◌, map, drop, Option, Some, None, slice_set, slice_index_or, option_map, if◌then◌else◌}
-use Rattle.access_rule.specs.Tree.{NodeRecord, placed}
+use Rattle.tree_model.specs.Tree.{NodeRecord, with_node_at}
 use Rattle.machine_model.specs.State.{Tagged, File, Caller, State}
 use Rattle.machine_model.specs.View.{OpenFile, View}
 
@@ -53,7 +53,7 @@ tag s p (came b) = record s { line = record (s.line) { input = s.line.input ++ t
 tag s p (given n) = record s { line = record (s.line) { input = drop n s.line.input } }
 tag s p (put bytes) = record s { line = record (s.line) { output = s.line.output ++ tagged p bytes } }
 tag s p (sent n) = record s { line = record (s.line) { output = drop n s.line.output } }
-tag s p (at path what) = record s { tree = placed s.tree path what }
+tag s p (at path what) = record s { tree = with_node_at s.tree path what }
 tag s p (became caller) = record s { caller = caller }
 
 abbrev pub opened : File → OpenFile
@@ -77,7 +77,7 @@ change v (came b) = record v { line = record (v.line) { input = v.line.input ++ 
 change v (given n) = record v { line = record (v.line) { input = drop n v.line.input } }
 change v (put bytes) = record v { line = record (v.line) { output = v.line.output ++ bytes } }
 change v (sent n) = record v { line = record (v.line) { output = drop n v.line.output } }
-change v (at path what) = record v { tree = placed v.tree path what }
+change v (at path what) = record v { tree = with_node_at v.tree path what }
 change v (became caller) = record v { caller = caller }
 
 abbrev pub tag_all : State → ℕ → List Effect → State

@@ -9,8 +9,8 @@ use Rattle.sys_types.specs.declared.node.Kind.{Kind}
 use Rattle.sys_types.specs.declared.node.Kind.TheVariants as kind
 use Rattle.sys_types.specs.declared.rules.Rule.TheVariants.{Size, BadFd, FdMode, Dead, NotReady, FdRoom, Flags, Exists, NoEntry, IsDir, NoTty, LabelRead, LabelWrite, FileSpace}
 use Rattle.call_words.specs.Calls.{can_read, can_write}
-use Rattle.access_rule.specs.Tree.{NodeRecord, WalkEnd, found, absent, missing, not_dir, name_long, path_long, is_file, is_dir_record, placed, bytes_in}
-use Rattle.access_rule.specs.Contents.{bytes_at, with_contents, with_written}
+use Rattle.tree_model.specs.Tree.{NodeRecord, WalkEnd, found, absent, missing, not_dir, name_long, path_long, is_file, is_dir_record, with_node_at, bytes_in}
+use Rattle.tree_model.specs.Contents.{bytes_at, with_contents, with_write}
 use Rattle.machine_model.specs.State.{File}
 use Rattle.machine_model.specs.View.{OpenFile, View}
 use Rattle.machine_model.specs.Effects.{Effect, made, dropped, moved, emptied, given, put, at}
@@ -181,8 +181,8 @@ read_row v fd max = behind (
     (read_at v fd max (file_at v fd))
 
 -- how many of the bytes fit the output
-abbrev pub fitting : View → List ℕ → ℕ
-fitting v bs = min (length bs) (OUTPUT_BYTES - length v.line.output)
+abbrev pub most_that_fit : View → List ℕ → ℕ
+most_that_fit v bs = min (length bs) (OUTPUT_BYTES - length v.line.output)
 
 -- where a write puts its bytes: at the end of a file that is opened to append, else at the offset
 abbrev pub write_place : View → OpenFile → ℕ
@@ -190,20 +190,20 @@ write_place v f = if f.file.append then length (contents_of (node_at v f.file.pa
 
 -- what the file is after the write
 abbrev pub written_node : View → OpenFile → List ℕ → Option NodeRecord
-written_node v f bs = option_map (with_written (write_place v f) bs) (node_at v f.file.path)
+written_node v f bs = option_map (with_write (write_place v f) bs) (node_at v f.file.path)
 
 -- In a file the bytes are put whole, unless all contents would have too many; on a line as many are put as fit, and where none
 -- fits a write would wait and is denied.
 abbrev pub write_of : View → ℕ → List ℕ → OpenFile → Option ℕ → Row
 write_of v fd bs f None = record {
-  lines = line (nat_lt FILE_SPACE (bytes_in (placed v.tree f.file.path (written_node v f bs)))) (refused FileSpace) ∷ [];
+  lines = line (nat_lt FILE_SPACE (bytes_in (with_node_at v.tree f.file.path (written_node v f bs)))) (refused FileSpace) ∷ [];
   effects = at f.file.path (written_node v f bs) ∷ moved fd (write_place v f + length bs) ∷ [];
   answer = number (length bs);
 }
 write_of v fd bs f (Some tty) = record {
   lines = line (nat_le OUTPUT_BYTES (length v.line.output)) (refused NotReady) ∷ [];
-  effects = put (take (fitting v bs) bs) ∷ [];
-  answer = number (fitting v bs);
+  effects = put (take (most_that_fit v bs) bs) ∷ [];
+  answer = number (most_that_fit v bs);
 }
 
 abbrev pub write_at : View → ℕ → List ℕ → Option OpenFile → Row

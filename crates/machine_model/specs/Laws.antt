@@ -5,9 +5,9 @@ use Rattle.sys_types.specs.declared.rules.Rule.{Rule}
 use Rattle.sys_types.specs.declared.rules.Rule.TheVariants.{Size, FdMode, Dead}
 use Rattle.call_words.specs.declared.event.Event.{Event}
 use Rattle.call_words.specs.declared.event.Event.TheVariants as event
-use Rattle.call_words.specs.declared.event.Reply.TheVariants.{Num, Bytes, Text, Denied, Gone}
+use Rattle.call_words.specs.declared.event.Reply.TheVariants.{Num, Pair, Child, Image, Bytes, Text, Denied, Gone}
 use Rattle.call_words.specs.declared.event.Decision.{Decision}
-use Rattle.call_words.specs.declared.event.Decision.TheVariants.{Answer, Taken, Noted}
+use Rattle.call_words.specs.declared.event.Decision.TheVariants.{Answer, Sleep, Taken, Noted}
 use Rattle.user_db.specs.declared.boot.Boot.{Boot}
 use Rattle.machine_model.specs.State.{Tagged, File, State, boot}
 use Rattle.machine_model.specs.View.{OpenFile, View, view, find, look_at}
@@ -34,6 +34,10 @@ answers_bytes (Answer (Bytes bs)) = not (length bs == 0)
 answers_bytes (Answer (Text t)) = false
 answers_bytes (Answer (Denied rule)) = false
 answers_bytes (Answer Gone) = false
+answers_bytes (Answer (Pair r w)) = false
+answers_bytes (Answer (Child pid how)) = false
+answers_bytes (Answer (Image image args)) = false
+answers_bytes (Sleep reason) = false
 answers_bytes (Taken bs) = false
 answers_bytes Noted = false
 
@@ -55,6 +59,10 @@ IsDeadRead (Answer (Bytes bs)) = bs ≡ []
 IsDeadRead (Answer (Text t)) = ⊥
 IsDeadRead (Answer (Denied rule)) = (rule ≡ Size) ⊎ (rule ≡ FdMode)
 IsDeadRead (Answer Gone) = Unit {0}
+IsDeadRead (Answer (Pair r w)) = ⊥
+IsDeadRead (Answer (Child pid how)) = ⊥
+IsDeadRead (Answer (Image image args)) = ⊥
+IsDeadRead (Sleep reason) = ⊥
 IsDeadRead (Taken bs) = ⊥
 IsDeadRead Noted = ⊥
 
@@ -65,6 +73,10 @@ IsDeadWrite (Answer (Bytes bs)) = ⊥
 IsDeadWrite (Answer (Text t)) = ⊥
 IsDeadWrite (Answer (Denied rule)) = (rule ≡ Dead) ⊎ (rule ≡ FdMode)
 IsDeadWrite (Answer Gone) = Unit {0}
+IsDeadWrite (Answer (Pair r w)) = ⊥
+IsDeadWrite (Answer (Child pid how)) = ⊥
+IsDeadWrite (Answer (Image image args)) = ⊥
+IsDeadWrite (Sleep reason) = ⊥
 IsDeadWrite (Taken bs) = ⊥
 IsDeadWrite Noted = ⊥
 
@@ -90,6 +102,9 @@ abbrev pub Revokes : State → ℕ → Event → Type 0
 Revokes s p (event.Call slot c) = uses_revoked s (use_of c) ≡ true → Denies s p (event.Call slot c) (use_of c)
 Revokes s p (event.Byte tty b) = Unit {0}
 Revokes s p (event.Take tty max) = Unit {0}
+Revokes s p (event.Again slot) = Unit {0}
+Revokes s p (event.Carrier tty up) = Unit {0}
+Revokes s p (event.Ended tty) = Unit {0}
 
 -- Bytes are read through a file that is not dead only where it may be read, and a count is answered to a write only where it may be
 -- written. Where labels are looked at again, the caller's active element then dominates the element of what the file is of, and
@@ -109,6 +124,9 @@ abbrev pub IsLabelled : State → ℕ → Event → Type 0
 IsLabelled s p (event.Call slot c) = UsesLabels s p (event.Call slot c) (use_of c)
 IsLabelled s p (event.Byte tty b) = Unit {0}
 IsLabelled s p (event.Take tty max) = Unit {0}
+IsLabelled s p (event.Again slot) = Unit {0}
+IsLabelled s p (event.Carrier tty up) = Unit {0}
+IsLabelled s p (event.Ended tty) = Unit {0}
 
 -- An open file is named by the position of the open that made it. At every moment of a run each of them was opened well: in the
 -- state after that open the elements dominated for what the file may be used for, and for the process that asked the open.

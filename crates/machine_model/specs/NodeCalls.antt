@@ -13,7 +13,7 @@ use Rattle.call_words.specs.declared.attr.WhichList.{WhichList}
 use Rattle.call_words.specs.declared.attr.WhichList.TheVariants.{Access, Default}
 use Rattle.sys_types.specs.declared.rules.Rule.TheVariants.{LabelRead, LabelWrite, Owner, Super, NotDir, AclBad, Relabel}
 use Rattle.access_rule.specs.Access.{is_superuser}
-use Rattle.access_rule.specs.Tree.{NodeRecord, is_dir_record}
+use Rattle.tree_model.specs.Tree.{NodeRecord, is_dir_record}
 use Rattle.machine_model.specs.View.{View}
 use Rattle.machine_model.specs.Effects.{at}
 use Rattle.machine_model.specs.Rows.{Row, line, refused, number, text}

@@ -8,8 +8,8 @@ use Rattle.acl_core.specs.Mode.{mode_of}
 use Rattle.sys_types.specs.declared.node.Kind.{Kind}
 use Rattle.sys_types.specs.declared.node.Kind.TheVariants as kind
 use Rattle.sys_types.specs.declared.rules.Rule.TheVariants.{Exists, NotDir, IsDir, InUse, LabelRead, LabelWrite, NotEmpty, Device}
-use Rattle.access_rule.specs.Tree.{NodeRecord, WalkEnd, found, absent, missing, not_dir, name_long, path_long, is_dir_record, is_file, parent_of, path_cmp}
-use Rattle.access_rule.specs.Listing.{names_under, is_empty_dir, names_text}
+use Rattle.tree_model.specs.Tree.{NodeRecord, WalkEnd, found, absent, missing, not_dir, name_long, path_long, is_dir_record, is_file, parent_of, path_cmp}
+use Rattle.tree_model.specs.Listing.{names_under, is_empty_dir, names_text}
 use Rattle.machine_model.specs.View.{OpenFile, View}
 use Rattle.machine_model.specs.Effects.{at, became}
 use Rattle.machine_model.specs.Rows.{Row, line, refused, number, text, behind, no_row}

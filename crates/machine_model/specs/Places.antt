@@ -4,9 +4,9 @@ use Rattle.label_core.specs.Element.{dom}
 use Rattle.sys_types.specs.declared.limits.TheConstants.{NODES}
 use Rattle.sys_types.specs.declared.node.Kind.{Kind}
 use Rattle.access_rule.specs.Access.{is_superuser}
-use Rattle.access_rule.specs.Tree.{NodeRecord, WalkEnd, walk, at_path}
-use Rattle.access_rule.specs.Paths.{path_rule, node_rule, path_at, access_rule}
-use Rattle.access_rule.specs.NewNodes.{make_rule_in, made_in}
+use Rattle.tree_model.specs.Tree.{NodeRecord, WalkEnd, walk, at_path}
+use Rattle.tree_model.specs.Paths.{path_rule, node_rule, path_at, access_rule}
+use Rattle.tree_model.specs.NewNodes.{make_rule_in, new_in_dir}
 use Rattle.machine_model.specs.View.{View}
 use Rattle.machine_model.specs.Rows.{Outcome, Row, denied_by, behind}
 
@@ -48,7 +48,7 @@ abbrev pub make_line : View → List (List ℕ) → Option Outcome
 make_line v dir = denied_by (make_rule_in v.caller.cred v.caller.label (node_at v dir) (length v.tree == NODES))
 
 abbrev pub made_by : View → List (List ℕ) → Kind → ℕ → Option NodeRecord
-made_by v dir kind mode = made_in v.caller.cred v.caller.label v.caller.umask (node_at v dir) kind mode
+made_by v dir kind mode = new_in_dir v.caller.cred v.caller.label v.caller.umask (node_at v dir) kind mode
 
 -- the caller neither owns the node nor is the superuser
 abbrev pub is_not_owner : View → Option NodeRecord → Bool

@@ -5,8 +5,8 @@ use Rattle.label_core.specs.declared.subject.Subject.{Subject}
 use Rattle.acl_core.specs.declared.cred.Cred.{Cred}
 use Rattle.sys_types.specs.declared.limits.TheConstants.{DESCRIPTORS}
 use Rattle.user_db.specs.declared.boot.Boot.{Boot}
-use Rattle.access_rule.specs.Tree.{Nodes}
-use Rattle.access_rule.specs.Standard.{standard_tree}
+use Rattle.tree_model.specs.Tree.{Nodes}
+use Rattle.tree_model.specs.Standard.{standard_tree}
 
 -- a byte, and the position of the event that brought it
 pub record Tagged : Type 0 where

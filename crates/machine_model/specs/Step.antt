@@ -8,12 +8,12 @@ use Rattle.call_words.specs.declared.call.Call.TheVariants as call
 use Rattle.call_words.specs.declared.event.Event.{Event}
 use Rattle.call_words.specs.declared.event.Event.TheVariants as event
 use Rattle.call_words.specs.declared.event.Decision.{Decision}
-use Rattle.call_words.specs.declared.event.Decision.TheVariants.{Answer, Taken, Noted}
+use Rattle.call_words.specs.declared.event.Decision.TheVariants.{Answer, Sleep, Taken, Noted}
 use Rattle.call_words.specs.Events.{MayBeUsed, WakeList}
 use Rattle.machine_model.specs.State.{State}
 use Rattle.machine_model.specs.View.{OpenFile, View, view}
 use Rattle.machine_model.specs.Effects.{tag_all, change_all}
-use Rattle.machine_model.specs.Rows.{Row, line, early, gone, behind, decision, done}
+use Rattle.machine_model.specs.Rows.{Row, line, early, gone, behind, no_row, decision, done}
 use Rattle.machine_model.specs.PathCalls.{chdir_row, mkdir_row, rmdir_row, unlink_row, list_row, info_row}
 use Rattle.machine_model.specs.NodeCalls.{chmod_row, chown_row, setacl_row, getacl_row, setlabel_row, getlabel_row}
 use Rattle.machine_model.specs.CallerCalls.{setcred_row, setproclabel_row, umask_row, ident_row}
@@ -43,6 +43,7 @@ call_row v (call.SetProcLabel subject) = setproclabel_row v subject
 call_row v (call.Umask mode) = umask_row v mode
 call_row v call.Ident = ident_row v
 call_row v (call.Revoke path) = revoke_row v path
+call_row v _ = no_row
 
 -- the one process runs in slot 0
 abbrev pub has_no_process : ℕ → Bool
@@ -52,6 +53,9 @@ abbrev pub row : View → Event → Row
 row v (event.Call slot c) = behind (line (has_no_process slot) (early gone) ∷ []) (call_row v c)
 row v (event.Byte tty b) = byte_row v b
 row v (event.Take tty max) = take_row v max
+row v (event.Again slot) = no_row
+row v (event.Carrier tty up) = no_row
+row v (event.Ended tty) = no_row
 
 -- the state after the event at position p, and its decision
 abbrev pub step : State → ℕ → Event → State × Decision
@@ -67,6 +71,7 @@ answer_to v e = decision (row v e)
 abbrev pub gives_a_byte : Decision → Bool
 gives_a_byte (Answer reply) = false
 gives_a_byte (Taken bs) = not (length bs == 0)
+gives_a_byte (Sleep reason) = false
 gives_a_byte Noted = false
 
 -- no call waits, so no slot stands in it
@@ -102,12 +107,16 @@ is_built_call (call.SetProcLabel subject) = true
 is_built_call (call.Umask mode) = true
 is_built_call call.Ident = true
 is_built_call (call.Revoke path) = bytes_eq path tty7
+is_built_call _ = false
 
 -- The events that are built so far: of the lines line 7 alone.
 abbrev pub is_built : Event → Bool
 is_built (event.Call slot c) = is_built_call c
 is_built (event.Byte tty b) = tty == RAW_LINE
 is_built (event.Take tty max) = tty == RAW_LINE
+is_built (event.Again slot) = false
+is_built (event.Carrier tty up) = false
+is_built (event.Ended tty) = false
 
 -- what may be asked of the machine
 abbrev pub MayBeAsked : Event → Type 0
@@ -127,3 +136,6 @@ abbrev pub may_want_memory : View → Event → Bool
 may_want_memory v (event.Call slot c) = wants_memory v (use_of c)
 may_want_memory v (event.Byte tty b) = false
 may_want_memory v (event.Take tty max) = false
+may_want_memory v (event.Again slot) = false
+may_want_memory v (event.Carrier tty up) = false
+may_want_memory v (event.Ended tty) = false

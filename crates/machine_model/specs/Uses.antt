@@ -31,3 +31,4 @@ use_of (call.SetProcLabel subject) = neither
 use_of (call.Umask mode) = neither
 use_of call.Ident = neither
 use_of (call.Revoke path) = neither
+use_of _ = neither

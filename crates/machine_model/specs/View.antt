@@ -1,6 +1,6 @@
 -- What calls can see of a state: the same without names, tags and positions.
 use Rattle.std.specs.Prelude.{ℕ, Bool, ◌&&◌, List, [], ◌∷◌, map, Option, Some, None, is_some, nat_lt, ◌==◌, if◌then◌else◌, option_map, option_and_then}
-use Rattle.access_rule.specs.Tree.{Nodes}
+use Rattle.tree_model.specs.Tree.{Nodes}
 use Rattle.machine_model.specs.State.{Tagged, Line, File, Caller, State}
 
 -- a line's queues

@@ -21,7 +21,7 @@ use Rattle.script_text.specs.Words.{number_below, bytes_of_word, hex_word}
 use Rattle.script_text.specs.Paths.{is_plain, pair_value, escaped_byte, path_of, path_word}
 use Rattle.script_text.specs.Spelling.{plain, escaped, IsSpelled, by_parts}
 use Rattle.script_text.specs.Values.{line_of, mode_of, access_of, flags_of, line_word, mode_word, access_word, flags_word}
-use Rattle.script_text.specs.Grammar.{Field, Fits, Says, word_of, IsByte, name, slot, line, path, access, flags, open_mode, mode, fd, max, taken, from, bytes, id, groups, which, entries, element, subject}
+use Rattle.script_text.specs.Grammar.{Field, Fits, Says, word_of, IsByte, name, slot, line, path, access, flags, open_mode, mode, fd, max, taken, from, bytes, id, groups, which, entries, element, subject, no_line}
 use Rattle.script_text.proofs.Chosen.{same_text}
 use Rattle.script_text.proofs.Spelled.{written_is_read}
 use Rattle.script_text.proofs.NumberBack.{number_back}
@@ -169,3 +169,4 @@ word_back (which l) h = which_back l
 word_back (entries es) h = ap result_ok (read_again es h)
 word_back (element e) h = ap result_ok (element_of-element_text e h)
 word_back (subject s) h = ap result_ok (subject_of-subject_text s h)
+word_back no_line h = absurd h

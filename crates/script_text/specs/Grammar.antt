@@ -12,7 +12,7 @@ use Rattle.acl_core.specs.declared.entry.Entry.{Entry}
 use Rattle.acl_core.specs.declared.cred.TheConstants.{MOST_GROUPS}
 use Rattle.acl_core.specs.Text.{list_text, HasText}
 use Rattle.sys_types.specs.declared.limits.TheConstants.{SLOTS, LINES, SCRIPT_LINE_BYTES}
-use Rattle.sys_types.specs.declared.limits.TheConstants.{PIECE_BYTES, PATH_BYTES}
+use Rattle.sys_types.specs.declared.limits.TheConstants.{PIECE_BYTES, PATH_TEXT_BYTES}
 use Rattle.call_words.specs.declared.open.Access.{Access}
 use Rattle.call_words.specs.declared.open.OpenFlags.{OpenFlags}
 use Rattle.call_words.specs.declared.call.Call.{Call}
@@ -54,6 +54,8 @@ pub data Field : Type 0 where
   -- the label of a node, and of a process
   element : Element → Field
   subject : Parts → Field
+  -- of a call or an event that has no line yet: no word says it
+  no_line : Field
 
 -- the word says the field's value
 abbrev pub Says : Field → List ℕ → Type 0
@@ -76,6 +78,7 @@ Says (which l) w = which_of w ≡ Some l
 Says (entries es) w = entries_of w ≡ Some es
 Says (element e) w = label_of w ≡ Some e
 Says (subject s) w = subject_label_of w ≡ Some s
+Says no_line w = ⊥
 
 -- where no word says it, the field has this value; other fields cannot be absent
 abbrev pub IsUnsaid : Field → Type 0
@@ -98,6 +101,7 @@ IsUnsaid (which l) = ⊥
 IsUnsaid (entries es) = ⊥
 IsUnsaid (element e) = ⊥
 IsUnsaid (subject s) = ⊥
+IsUnsaid no_line = ⊥
 
 -- the values that a field can have
 abbrev pub IsByte : ℕ → Type 0
@@ -110,7 +114,7 @@ abbrev pub Fits : Field → Type 0
 Fits (name n) = Unit {0}
 Fits (slot n) = n < SLOTS
 Fits (line n) = n < LINES
-Fits (path p) = (length p ≤ PATH_BYTES) × AllByRecursion IsByte p
+Fits (path p) = (length p ≤ PATH_TEXT_BYTES) × AllByRecursion IsByte p
 Fits (access a) = Unit {0}
 Fits (flags f) = Unit {0}
 Fits (open_mode m) = m < 8 ^ 3
@@ -126,6 +130,7 @@ Fits (which l) = Unit {0}
 Fits (entries es) = HasText es
 Fits (element e) = IsElement e
 Fits (subject s) = IsSubject s
+Fits no_line = ⊥
 
 -- the word that is printed of a field
 abbrev pub word_of : Field → List ℕ
@@ -148,6 +153,7 @@ word_of (which l) = which_word l
 word_of (entries es) = list_text es
 word_of (element e) = element_text e
 word_of (subject s) = subject_text s
+word_of no_line = []
 
 -- the words say the fields in order; those that may be absent are so from the right
 abbrev pub SayAll : List Field → List (List ℕ) → Type 0
@@ -179,6 +185,7 @@ call_fields call.Ident = name (codes "ident") ∷ []
 call_fields (call.SetCred c) = name (codes "setcred") ∷ id c.uid ∷ id c.gid ∷ groups c.groups.items ∷ []
 call_fields (call.Umask m) = name (codes "umask") ∷ mode m ∷ []
 call_fields (call.Revoke p) = name (codes "revoke") ∷ path p ∷ []
+call_fields _ = no_line ∷ []
 
 -- the fields of the arrival of bytes at a line
 abbrev pub in_fields : ℕ → List ℕ → List Field
@@ -189,6 +196,7 @@ abbrev pub fields : Event → List Field
 fields (event.Call n c) = slot n ∷ call_fields c
 fields (event.Byte n b) = in_fields n (b ∷ [])
 fields (event.Take n m) = name (codes "take") ∷ line n ∷ taken m ∷ []
+fields _ = no_line ∷ []
 
 -- the words ask these events: one with its fields, but no taking of no bytes, or the arrival of
 -- some bytes at a line

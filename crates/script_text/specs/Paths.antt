@@ -5,7 +5,7 @@ use Rattle.std.specs.Prelude.{ℕ, ◌+◌, ◌*◌, Bool, not, ◌&&◌, ◌==�
 use Rattle.std.specs.Char.{digit_value}
 use Rattle.std.specs.Str.{bytes_eq, byte}
 use Rattle.hex.specs.Hex.{encode_lower}
-use Rattle.sys_types.specs.declared.limits.TheConstants.{PATH_BYTES}
+use Rattle.sys_types.specs.declared.limits.TheConstants.{PATH_TEXT_BYTES}
 use Rattle.script_text.specs.Words.{only_if}
 
 -- a byte that is written as itself
@@ -40,7 +40,7 @@ unescaped (b ∷ rest) = then_bytes (plain_value b) (unescaped rest)
 
 -- bytes that a path can have
 abbrev pub if_short : Option (List ℕ) → Option (List ℕ)
-if_short bytes = option_and_then (λ bs. only_if (nat_le (length bs) PATH_BYTES) (Some bs)) bytes
+if_short bytes = option_and_then (λ bs. only_if (nat_le (length bs) PATH_TEXT_BYTES) (Some bs)) bytes
 
 -- the path of a word
 unfoldable pub path_of : List ℕ → Option (List ℕ)

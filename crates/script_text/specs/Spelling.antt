@@ -3,7 +3,7 @@ use Rattle.std.specs.Prelude.{◌≡◌, ℕ, ◌<◌, ◌≤◌, true, false, L
 use Rattle.std.specs.List.{AllByRecursion}
 use Rattle.std.specs.Char.{digit_value}
 use Rattle.std.specs.Str.{byte}
-use Rattle.sys_types.specs.declared.limits.TheConstants.{PATH_BYTES}
+use Rattle.sys_types.specs.declared.limits.TheConstants.{PATH_TEXT_BYTES}
 use Rattle.script_text.specs.Paths.{is_plain, pair_value}
 
 -- a byte as it is, or two digits behind a percent sign
@@ -37,4 +37,4 @@ pub record IsSpelled (text bytes : List ℕ) : Type 0 where
 -- bytes
 pub data WritesPath (word path : List ℕ) : Type 0 where
   lone_sign : word ≡ codes "%" → path ≡ [] → WritesPath word path
-  by_parts : 0 < length path → length path ≤ PATH_BYTES → IsSpelled word path → WritesPath word path
+  by_parts : 0 < length path → length path ≤ PATH_TEXT_BYTES → IsSpelled word path → WritesPath word path

@@ -4,7 +4,7 @@ ghost use Rattle.script_text.specs.Paths.{is_plain, escape_value, then_bytes, un
 
 use crate::words::is_word;
 use arrayvec::ArrayVec;
-use call_words::{PATH_BYTES, PathText};
+use call_words::{PATH_TEXT_BYTES, PathText};
 
 const PERCENT: u8 = b'%';
 
@@ -44,7 +44,7 @@ fn next_byte(text: &[u8]) -> Option<(u8, &[u8])>
 fn read_escaped(text: &[u8]) -> Option<PathText>
     ensures { result ≡ if_short (unescaped text.now) }
 {
-    let mut path: ArrayVec<u8, PATH_BYTES> = ArrayVec::new();
+    let mut path: ArrayVec<u8, PATH_TEXT_BYTES> = ArrayVec::new();
     let mut rest = text;
     while !rest.is_empty() {
         let (byte, after) = next_byte(rest)?;

@@ -6,11 +6,13 @@ ghost use Rattle.sys_types.specs.declared.limits.TheConstants.{PIECE_BYTES, TEXT
 ghost use Rattle.call_words.specs.Events.{wake_list};
 ghost use Rattle.script_text.specs.Words.{hex_word};
 ghost use Rattle.script_text.specs.Paths.{escaped_byte, text_word};
-ghost use Rattle.script_text.specs.Answers.{reply_text, decision_text, asker_text, wake_text, answer_line};
+ghost use Rattle.script_text.specs.Answers.{how_text, reply_text, decision_text, asker_text, wake_text, answer_line};
 
 use crate::paths::is_plain;
 use arrayvec::ArrayVec;
-use call_words::{Decision, Event, PIECE_BYTES, Reply, TEXT_BYTES, Wakes, push_bytes, push_number};
+use call_words::{
+    Decision, Event, How, PIECE_BYTES, Reply, TEXT_BYTES, Wakes, push_bytes, push_number,
+};
 
 /// How many bytes an answer line has at most.
 pub const ANSWER_BYTES: usize = 16_384;
@@ -82,6 +84,28 @@ fn push_text(out: &mut AnswerLine, text: &[u8])
     }
 }
 
+/// What became of a child: its status, or the number of a signal (wait4(2)).
+fn push_how(out: &mut AnswerLine, how: How)
+    requires { array_vec_len out.old + 20 ≤ ANSWER_BYTES }
+    ensures bytes { out.new.items ≡ out.old.items ++ how_text how }
+    ensures len { array_vec_len out.new ≤ array_vec_len out.old + 20 }
+{
+    match how {
+        How::Exit(status) => {
+            push_bytes(out, b"exit ");
+            push_number(out, u32::from(status));
+        }
+        How::Signal(sig) => {
+            push_bytes(out, b"signal ");
+            push_number(out, u32::from(sig.number()));
+        }
+        How::Stop(sig) => {
+            push_bytes(out, b"stop ");
+            push_number(out, u32::from(sig.number()));
+        }
+    }
+}
+
 fn push_reply(out: &mut AnswerLine, reply: &Reply)
     requires { array_vec_len out.old + DECISION_ROOM ≤ ANSWER_BYTES }
     ensures bytes { out.new.items ≡ out.old.items ++ reply_text reply.now }
@@ -91,6 +115,24 @@ fn push_reply(out: &mut AnswerLine, reply: &Reply)
         Reply::Num(number) => {
             push_bytes(out, b"ok ");
             push_number(out, *number);
+        }
+        Reply::Pair(read, write) => {
+            push_bytes(out, b"pair ");
+            push_number(out, u32::from(*read));
+            push_bytes(out, b" ");
+            push_number(out, u32::from(*write));
+        }
+        Reply::Child { pid, how } => {
+            push_bytes(out, b"child ");
+            push_number(out, *pid);
+            push_bytes(out, b" ");
+            push_how(out, *how);
+        }
+        Reply::Image { image, args } => {
+            push_bytes(out, b"image ");
+            push_bytes(out, image.name().as_bytes());
+            push_bytes(out, b" ");
+            push_hex(out, args.as_slice());
         }
         Reply::Bytes(bytes) => {
             push_bytes(out, b"bytes ");
@@ -117,6 +159,10 @@ fn push_decision(out: &mut AnswerLine, decision: &Decision)
 {
     match decision {
         Decision::Answer(reply) => push_reply(out, reply),
+        Decision::Sleep(reason) => {
+            push_bytes(out, b"sleep ");
+            push_bytes(out, reason.word());
+        }
         Decision::Taken(bytes) => {
             push_bytes(out, b"out ");
             push_hex(out, bytes.as_slice());
@@ -131,8 +177,11 @@ fn push_asker(out: &mut AnswerLine, event: &Event)
     ensures len { array_vec_len out.new ≤ array_vec_len out.old + 13 }
 {
     match event {
-        Event::Call { slot, .. } => push_number(out, u32::from(*slot)),
-        Event::Byte { line, .. } | Event::Take { line, .. } => {
+        Event::Call { slot, .. } | Event::Again { slot } => push_number(out, u32::from(*slot)),
+        Event::Byte { line, .. }
+        | Event::Carrier { line, .. }
+        | Event::Take { line, .. }
+        | Event::Ended { line } => {
             push_bytes(out, b"tty");
             push_number(out, u32::from(*line));
         }
@@ -161,7 +210,7 @@ fn push_wakes(out: &mut AnswerLine, slots: &[u8])
 #[tactic(auto, unfolding(crate::specs::Answers::answer_line))]
 pub fn print_answer(event: &Event, decision: &Decision, wakes: &Wakes, out: &mut AnswerLine)
     requires { out.old.items ≡ [] }
-    ensures { out.new.items ≡ answer_line event.now decision.now (listed wakes.now) }
+    ensures { out.new.items ≡ answer_line event.now decision.now (wake_list wakes.now) }
 {
     push_asker(out, event);
     push_bytes(out, b" ");

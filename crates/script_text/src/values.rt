@@ -20,7 +20,7 @@ pub fn read_slot(word: &[u8]) -> Option<u8>
     ensures value { result ≡ slot_of word.now }
     ensures below { IfSome result (λ slot. slot < SLOTS) }
 {
-    let slot = read_number(word, DECIMAL, u32::from(SLOTS))?;
+    let slot = read_number(word, DECIMAL, SLOTS as u32)?;
     Some(slot as u8)
 }
 
@@ -30,7 +30,7 @@ pub fn read_line(word: &[u8]) -> Option<u8>
     ensures below { IfSome result (λ line. line < LINES) }
 {
     let number = word.strip_prefix(b"tty".as_slice())?;
-    let line = read_number(number, DECIMAL, u32::from(LINES))?;
+    let line = read_number(number, DECIMAL, LINES as u32)?;
     Some(line as u8)
 }
 

@@ -1,6 +1,6 @@
 //! The figures of the limits, which the check proves. Each law is the contract of a function that does nothing.
 ghost use Rattle.std.specs.Prelude.{◌≡◌};
-ghost use Rattle.sys_types.specs.declared.limits.TheConstants.{SLOTS, LINES, DESCRIPTORS, OPEN_FILES, PIPES, NODES, FILE_SPACE, PATH_BYTES, PATH_TEXT_BYTES, NAME_BYTES, INPUT_PLACES, READY_LINE_BYTES, OUTPUT_BYTES, PIPE_BYTES, PIECE_BYTES, TEXT_BYTES, POOL_BLOCKS, LINE_BLOCKS, PIPE_BLOCKS, TRAIL_EVENTS, SCRIPT_LINE_BYTES};
+ghost use Rattle.sys_types.specs.declared.limits.TheConstants.{SLOTS, LINES, RAW_LINE, DESCRIPTORS, OPEN_FILES, PIPES, NODES, FILE_SPACE, PATH_BYTES, PATH_TEXT_BYTES, NAME_BYTES, INPUT_PLACES, READY_LINE_BYTES, OUTPUT_BYTES, PIPE_BYTES, PIECE_BYTES, TEXT_BYTES, POOL_BLOCKS, LINE_BLOCKS, PIPE_BLOCKS, TRAIL_EVENTS, SCRIPT_LINE_BYTES};
 ghost use Rattle.sys_types.specs.declared.image.TheConstants.{IMAGES};
 ghost use Rattle.sys_types.specs.declared.sig.TheConstants.{SIGNALS};
 
@@ -8,6 +8,7 @@ ghost use Rattle.sys_types.specs.declared.sig.TheConstants.{SIGNALS};
 pub fn limits_of_processes()
     ensures slots { SLOTS ≡ 32 }
     ensures lines { LINES ≡ 8 }
+    ensures raw_line { RAW_LINE ≡ 7 }
     ensures descriptors { DESCRIPTORS ≡ 32 }
     ensures open_files { OPEN_FILES ≡ 256 }
     ensures pipes { PIPES ≡ 16 }

@@ -6,6 +6,9 @@ pub const SLOTS: usize = 32;
 /// How many terminal lines there are: 0 to 7.
 pub const LINES: usize = 8;
 
+/// The line that is raw after a boot: the last one. The others are cooked.
+pub const RAW_LINE: u8 = 7;
+
 /// How many descriptors a process may have: the numbers 0 to 31.
 pub const DESCRIPTORS: usize = 32;
 

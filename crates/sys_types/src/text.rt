@@ -77,7 +77,8 @@ impl<const N: usize> InPlace<N> {
 
     /// An equal value.
     pub fn copy(&self) -> Self
-        ensures { result ≡ self.now }
+        ensures same { result ≡ self.now }
+        ensures most { length result ≤ N }
     {
         let mut bytes = ArrayVec::new();
         let _ = bytes.try_extend_from_slice(self.bytes.as_slice());

@@ -1,21 +1,21 @@
 -- A node that is changed, made or taken away.
-use Rattle.std.proofs.Common.{◌≡◌, ◌≢◌, inl, inr, ℕ, suc, ◌+◌, ◌<◌, ◌≤◌, false, List, [], ◌∷◌, ◌++◌, length, set, get_or, Option, Some, None, refl, sym, ap, ◌∙◌, arith, subst}
-use Rattle.std.specs.Prelude.{IsSome, is_some, sum_by}
+use Rattle.std.proofs.Common.{◌≡◌, ◌≢◌, inl, inr, ℕ, suc, ◌+◌, ◌<◌, ◌≤◌, true, false, List, [], ◌∷◌, ◌++◌, length, set, get_or, Option, Some, None, refl, sym, ap, ◌∙◌, arith, subst}
+use Rattle.std.specs.Prelude.{IsSome, IsTrue, is_some, sum_by}
 use Rattle.std.proofs.lemmas.List.{get_or-set_same, get_or-set_other, length-set}
 use Rattle.std.proofs.lemmas.List.Sums.{sum_by-set}
 use Rattle.std.proofs.lemmas.Bool.{cases_eq}
-use Rattle.access_rule.specs.Tree.{is_dir}
+use Rattle.tree_model.specs.Tree.{is_dir}
 use Rattle.vnode_tree.specs.declared.entry.Entry.{Entry}
-use Rattle.vnode_tree.specs.Nodes.{Named, tree_of}
-use Rattle.vnode_tree.specs.Links.{entry_at, path_up, record_in, named_of, nodes_of}
-use Rattle.vnode_tree.specs.Kept.{IsKept, IsDirAt, size_in}
+use Rattle.vnode_tree.specs.Nodes.{NodeAt, tree_of, is_name}
+use Rattle.vnode_tree.specs.Links.{entry_at, path_up, record_in, node_of, nodes_of}
+use Rattle.vnode_tree.specs.Kept.{IsKept, IsDirAt, IsProper, size_in}
 use Rattle.vnode_tree.proofs.Paths.{path_is, Has, kept_path, enough_fuel, exact_fuel, below_path, same_node_path}
 use Rattle.vnode_tree.proofs.Counts.{live_within, path_counts, count_with_free}
 use Rattle.vnode_tree.proofs.Trees.{at_its_path}
-use Rattle.vnode_tree.proofs.Tables.{placed, paths_apart, nodes_after, named_stays, after_set}
+use Rattle.vnode_tree.proofs.Tables.{has_path, paths_apart, nodes_after, named_stays, after_set}
 
 -- the table after a change of one place
-pub record Changed (entries others : List (Option Entry)) (n : ℕ) (x : Option Named) : Type 0 where
+pub record Changed (entries others : List (Option Entry)) (n : ℕ) (x : Option NodeAt) : Type 0 where
   pub kept : IsKept others
   pub nodes : nodes_of others ≡ set (nodes_of entries) n x
 
@@ -40,8 +40,8 @@ has_set entries n entry like below at is = record {
   up = λ i e in_p there other. tt;
 }
 
-named_here : (entries : List (Option Entry)) (n : ℕ) (entry : Entry) (path : List (List ℕ)) → entry_at entries n ≡ Some entry → path_up (length entries) entries n ≡ Some path → named_of entries n ≡ Some (record { path = path; node = record_in entry })
-unfolding named_of
+named_here : (entries : List (Option Entry)) (n : ℕ) (entry : Entry) (path : List (List ℕ)) → entry_at entries n ≡ Some entry → path_up (length entries) entries n ≡ Some path → node_of entries n ≡ Some (record { path = path; node = record_in entry })
+unfolding node_of
 named_here entries n entry path at up = rw (at, up) refl
 
 -- what an entry has of another, which may be the one that was put there
@@ -87,7 +87,7 @@ placed_after entries others i kept went dead live =
     elim (entry_at entries i) as (λ o. entry_at entries i ≡ o → IsSome (path_up (length others) others i)) [
       | None ↦ λ at. absurd (let none : is_some (entry_at others i) ≡ false = ap is_some (dead at) in cc)
       | Some e ↦ λ at.
-          let is = placed entries i e kept at in
+          let is = has_path entries i e kept at in
           subst (λ o. IsSome o) (sym (went i is.path is.up)) refl
     ] refl
 
@@ -111,11 +111,11 @@ changed_entry entries n entry like path kept at up is fits =
         ]);
         names = λ i e at_i other.
             let o = origin entries n entry like i e kept at is at_i in
-            omega (arith, kept.names i o.was o.at other, ap (λ (x : List ℕ). length x) o.name);
+            subst IsProper (sym o.name) (kept.names i o.was o.at other);
         above = λ i e at_i other.
             let o = origin entries n entry like i e kept at is at_i in
             subst (IsDirAt others) (sym o.dir) (dir_stays entries n entry like (o.was).dir below at is (kept.above i o.was o.at other));
-        placed = λ i live.
+        paths = λ i live.
             placed_after entries others i kept went (λ dead. elim (cases_eq i n) [
               | inl here ↦ absurd (let none : Some entry ≡ None = sym at ∙ ap (entry_at entries) (sym here) ∙ dead in cc)
               | inr other ↦ get_or-set_other entries n i (Some like) None other ∙ dead
@@ -132,14 +132,18 @@ changed_entry entries n entry like path kept at up is fits =
           (λ m other. named_stays anywhere entries others m kept size has (λ e at_m. tt) (get_or-set_other entries n m (Some like) None other));
     }
 
+pub name_some : (name : List ℕ) → IsTrue (is_name name) → 0 < length name
+name_some [] e = absurd (let no : false ≡ true = e in cc)
+name_some (b ∷ name) e = omega arith
+
 -- the other nodes stay where a place is not theirs
 abbrev pub not_here : ℕ → ℕ → Type 0
 not_here n i = i ≢ n
 
 -- a node is made in a free place
-pub made_entry : (entries : List (Option Entry)) (n : ℕ) (entry : Entry) (above : List (List ℕ)) → IsKept entries → n < length entries → entry_at entries n ≡ None → path_up (length entries) entries entry.dir ≡ Some above → IsDirAt entries entry.dir → 0 < length entry.name → entry.attrs.is_dir ≡ is_dir entry.kind → sum_by size_in entries + length entry.contents ≤ 4194304 → tree_of (nodes_of entries) (above ++ entry.name ∷ []) ≡ None
+pub made_entry : (entries : List (Option Entry)) (n : ℕ) (entry : Entry) (above : List (List ℕ)) → IsKept entries → n < length entries → entry_at entries n ≡ None → path_up (length entries) entries entry.dir ≡ Some above → IsDirAt entries entry.dir → IsProper entry.name → entry.attrs.is_dir ≡ is_dir entry.kind → sum_by size_in entries + length entry.contents ≤ 4194304 → tree_of (nodes_of entries) (above ++ entry.name ∷ []) ≡ None
     → Changed entries (set entries n (Some entry)) n (Some (record { path = above ++ entry.name ∷ []; node = record_in entry }))
-made_entry entries n entry above kept below free up into named dirs empty none =
+made_entry entries n entry above kept below free up into node dirs empty none =
     let others : List (Option Entry) = set entries n (Some entry) in
     let size : length others ≡ length entries = length-set entries n (Some entry) in
     let there : entry_at others n ≡ Some entry = get_or-set_same entries n (Some entry) None below in
@@ -152,18 +156,18 @@ made_entry entries n entry above kept below free up into named dirs empty none =
     let whole : path_up (suc (suc (length above))) others n ≡ Some (above ++ entry.name ∷ []) = below_path (suc (length above)) others n entry above other there near in
     let path_here : path_up (length others) others n ≡ Some (above ++ entry.name ∷ []) = enough_fuel (length others) (suc (suc (length above))) others n (above ++ entry.name ∷ []) (omega (arith, size, short)) whole in
     let alone : (j : ℕ) (f : Entry) → entry_at entries j ≡ Some f → f.dir ≡ entry.dir → f.name ≡ entry.name → ⊥ = λ j f at_j dir name.
-    let is = placed entries j f kept at_j in
+    let is = has_path entries j f kept at_j in
     elim (path_is (length entries) entries j is.path is.up) [
       | inl root ↦
           let one : kept.root.0 ≡ f = let both : Some kept.root.0 ≡ Some f = sym kept.root.1 ∙ ap (entry_at entries) (sym root.here) ∙ at_j in cc in
-          omega (arith, named, ap (λ (x : List ℕ). length x) (sym name), ap (λ (x : Entry). length x.name) (sym one), ap (λ (x : List ℕ). length x) kept.root.2)
+          omega (arith, name_some entry.name node.0, ap (λ (x : List ℕ). length x) (sym name), ap (λ (x : Entry). length x.name) (sym one), ap (λ (x : List ℕ). length x) kept.root.2)
       | inr down ↦
           let one : down.entry ≡ f = let both : Some down.entry ≡ Some f = sym down.at ∙ at_j in cc in
           let dir_up : path_up down.more entries entry.dir ≡ Some down.above = subst (λ (d : ℕ). path_up down.more entries d ≡ Some down.above) (ap (λ (x : Entry). x.dir) one ∙ dir) down.up in
           let same : down.above ≡ above = same_node_path down.more (length entries) entries entry.dir down.above above dir_up up in
           let name_is : (down.entry).name ≡ entry.name = ap (λ (x : Entry). x.name) one ∙ name in
           let path_same : is.path ≡ above ++ entry.name ∷ [] = down.whole ∙ ap (λ (q : List (List ℕ)). q ++ (down.entry).name ∷ []) same ∙ ap (λ (x : List ℕ). above ++ x ∷ []) name_is in
-          let some : tree_of (nodes_of entries) is.path ≡ Some (record_in f) = at_its_path (nodes_of entries) j (record { path = is.path; node = record_in f }) (paths_apart entries kept) is.named in
+          let some : tree_of (nodes_of entries) is.path ≡ Some (record_in f) = at_its_path (nodes_of entries) j (record { path = is.path; node = record_in f }) (paths_apart entries kept) is.itself in
           let no : Some (record_in f) ≡ None = sym some ∙ ap (tree_of (nodes_of entries)) path_same ∙ none in
           cc
     ] in
@@ -172,7 +176,7 @@ made_entry entries n entry above kept below free up into named dirs empty none =
         size = size ∙ kept.size;
         root = (kept.root.0, stays 0 kept.root.0 kept.root.1, kept.root.2, kept.root.3);
         names = λ i e at_i apart. elim (after_set entries n i (Some entry) e below at_i) [
-          | inl here ↦ let one : entry ≡ e = let both : Some entry ≡ Some e = here.1 in cc in omega (arith, named, ap (λ (x : Entry). length x.name) one)
+          | inl here ↦ let one : entry ≡ e = let both : Some entry ≡ Some e = here.1 in cc in subst (λ (x : Entry). IsProper x.name) one node
           | inr there ↦ kept.names i e there.1 apart
         ];
         above = λ i e at_i apart.
@@ -181,7 +185,7 @@ made_entry entries n entry above kept below free up into named dirs empty none =
               | inr there ↦ kept.above i e there.1 apart
             ] in
             record { entry = in_dir.entry; here = stays e.dir in_dir.entry in_dir.here; directory = in_dir.directory };
-        placed = λ i live. elim (cases_eq i n) [
+        paths = λ i live. elim (cases_eq i n) [
           | inl here ↦ subst (λ o. IsSome o) (sym (ap (path_up (length others) others) here ∙ path_here)) refl
           | inr apart ↦ placed_after entries others i kept went (λ dead. get_or-set_other entries n i (Some entry) None apart ∙ dead) live
         ];
@@ -212,8 +216,8 @@ made_entry entries n entry above kept below free up into named dirs empty none =
           (λ m apart. named_stays anywhere entries others m kept size has (λ e at_m. tt) (get_or-set_other entries n m (Some entry) None apart));
     }
 
-gone : (entries : List (Option Entry)) (n : ℕ) → entry_at entries n ≡ None → named_of entries n ≡ None
-unfolding named_of
+gone : (entries : List (Option Entry)) (n : ℕ) → entry_at entries n ≡ None → node_of entries n ≡ None
+unfolding node_of
 gone entries n at = rw at refl
 
 -- a node without children is taken away
@@ -240,12 +244,12 @@ removed_entry entries n entry kept at other alone =
             let there_was = (was i e at_i).1 in
             let in_dir = kept.above i e there_was apart in
             record { entry = in_dir.entry; here = get_or-set_other entries n e.dir None None (alone i e there_was apart) ∙ in_dir.here; directory = in_dir.directory };
-        placed = λ i live. elim (cases_eq i n) [
+        paths = λ i live. elim (cases_eq i n) [
           | inl here ↦ absurd (let no : is_some (entry_at others i) ≡ false = ap is_some (ap (entry_at others) here ∙ there) in cc)
           | inr apart ↦ elim (entry_at entries i) as (λ o. entry_at entries i ≡ o → IsSome (path_up (length others) others i)) [
             | None ↦ λ dead. absurd (let no : is_some (entry_at others i) ≡ false = ap is_some (get_or-set_other entries n i None None apart ∙ dead) in cc)
             | Some e ↦ λ at_i.
-                let is = placed entries i e kept at_i in
+                let is = has_path entries i e kept at_i in
                 subst (λ o. IsSome o) (sym (subst (λ k. path_up k others i ≡ Some is.path) (sym size) (kept_path (not_here n) (length entries) entries others i is.path has apart is.up))) refl
           ] refl
         ];

@@ -5,13 +5,13 @@ use Rattle.std.specs.List.{slice_split, position_or_len}
 use Rattle.std.proofs.lemmas.List.{drop-drop, length-take-le, get_or-take}
 use Rattle.std.proofs.lemmas.List.Splits.{slice_split_none, slice_split_first}
 use Rattle.std.proofs.lemmas.List.Sums.{fails_before_first}
-use Rattle.access_rule.specs.Tree.{steps, is_slash, is_skipped}
+use Rattle.tree_model.specs.Tree.{steps, is_slash, is_skipped}
 use Rattle.std.specs.List.{list_all}
 use Rattle.std.proofs.lemmas.List.Quantifiers.{position-Some}
 use Rattle.vnode_tree.proofs.Positions.{all_fail}
 use Rattle.vnode_tree.specs.Walks.{IsCut, is_step, step_of, steps_after, bytes_after}
 
-filter_one : (part : List ℕ) (rest : List (List ℕ)) → filter (λ p. not (is_skipped p)) (part ∷ rest) ≡ step_of part ++ filter (λ p. not (is_skipped p)) rest
+pub filter_one : (part : List ℕ) (rest : List (List ℕ)) → filter (λ p. not (is_skipped p)) (part ∷ rest) ≡ step_of part ++ filter (λ p. not (is_skipped p)) rest
 filter_one part rest = elim (is_skipped part) as (λ b. cond (not b) (part ∷ filter (λ p. not (is_skipped p)) rest) (filter (λ p. not (is_skipped p)) rest) ≡ cond b [] (part ∷ []) ++ filter (λ p. not (is_skipped p)) rest) [
   | true ↦ refl
   | false ↦ refl

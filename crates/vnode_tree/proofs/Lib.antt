@@ -21,3 +21,4 @@ pub mod NamesText
 pub mod NamesBelow
 pub mod NamesLaws
 pub mod Finite
+pub mod OwnPathLemmas

@@ -9,8 +9,8 @@ use Rattle.std.proofs.lemmas.Slice.Eq.{bytes_eq-Decides}
 use Rattle.std.proofs.lemmas.List.{drop_all}
 use Rattle.std.proofs.lemmas.List.Sorted.{Contains-permutation, IsPermutation-sym}
 use Rattle.std.proofs.Math.Seq.{take-suc}
-use Rattle.vnode_tree.specs.Nodes.{Named, path_of, same_path, tree_of}
-use Rattle.vnode_tree.specs.Names.{name_after, names_below, paths_of, in_order, names_in, joined, fits, fitting, names_text, AreBelow, Rise, IsMostOf}
+use Rattle.vnode_tree.specs.Nodes.{NodeAt, path_of, same_path, tree_of}
+use Rattle.vnode_tree.specs.Names.{name_after, names_below, paths_of, in_order, names_in, join_names, fits, most_that_fit, names_text, AreBelow, Rise, IsMostOf}
 use Rattle.vnode_tree.proofs.Trees.{path_true, path_refl, ArePathsApart, tail_apart, found_at}
 use Rattle.vnode_tree.proofs.NamesOrder.{times, times_permutation, in_order_permutes, in_order_ascends, ascends_rises, ascends_same, rises_ascend, rises_once}
 use Rattle.vnode_tree.proofs.NamesBelow.{after_of, after_is}
@@ -47,7 +47,7 @@ in_rest z (Some x) xs i = inr i
 
 -- ---- the names below a path lead to nodes
 
-there_from_in : (nodes : List (Option Named)) (dir : List (List ℕ)) (name : List ℕ) → In name (names_below (paths_of nodes) dir) → IsSome (tree_of nodes (dir ++ name ∷ []))
+there_from_in : (nodes : List (Option NodeAt)) (dir : List (List ℕ)) (name : List ℕ) → In name (names_below (paths_of nodes) dir) → IsSome (tree_of nodes (dir ++ name ∷ []))
 unfolding tree_of
 there_from_in [] dir name i = absurd i
 there_from_in (None ∷ nodes) dir name i = there_from_in nodes dir name i
@@ -66,7 +66,7 @@ there_from_in (Some a ∷ nodes) dir name i =
           ] refl i)
     ] refl
 
-in_from_there : (nodes : List (Option Named)) (dir : List (List ℕ)) (name : List ℕ) → IsSome (tree_of nodes (dir ++ name ∷ [])) → In name (names_below (paths_of nodes) dir)
+in_from_there : (nodes : List (Option NodeAt)) (dir : List (List ℕ)) (name : List ℕ) → IsSome (tree_of nodes (dir ++ name ∷ [])) → In name (names_below (paths_of nodes) dir)
 unfolding tree_of
 in_from_there [] dir name some = absurd (let no : false ≡ true = some in cc)
 in_from_there (None ∷ nodes) dir name some = in_from_there nodes dir name some
@@ -78,7 +78,7 @@ in_from_there (Some a ∷ nodes) dir name some =
       | false ↦ λ t some. in_rest name (name_after dir a.path) (names_below (paths_of nodes) dir) (in_from_there nodes dir name some)
     ] refl some
 
-pub are_below : (nodes : List (Option Named)) (dir : ℕ) → AreBelow nodes (path_of nodes dir) (names_in nodes dir)
+pub are_below : (nodes : List (Option NodeAt)) (dir : ℕ) → AreBelow nodes (path_of nodes dir) (names_in nodes dir)
 unfolding names_in
 are_below nodes dir name =
     let names : List (List ℕ) = names_below (paths_of nodes) (path_of nodes dir) in
@@ -89,7 +89,7 @@ are_below nodes dir name =
 
 -- ---- no name stands twice
 
-once_below : (nodes : List (Option Named)) (dir : List (List ℕ)) (z : List ℕ) → ArePathsApart nodes → times z (names_below (paths_of nodes) dir) ≤ 1
+once_below : (nodes : List (Option NodeAt)) (dir : List (List ℕ)) (z : List ℕ) → ArePathsApart nodes → times z (names_below (paths_of nodes) dir) ≤ 1
 once_below [] dir z all = omega arith
 once_below (None ∷ nodes) dir z all = once_below nodes dir z (tail_apart None nodes all)
 once_below (Some a ∷ nodes) dir z all =
@@ -98,17 +98,17 @@ once_below (Some a ∷ nodes) dir z all =
       | Some x ↦ λ e. once_with nodes dir z a x all e (once_below nodes dir z (tail_apart (Some a) nodes all))
     ] refl
   where
-    found_twice : (nodes : List (Option Named)) (dir : List (List ℕ)) (z : List ℕ) (a : Named) → ArePathsApart (Some a ∷ nodes) → a.path ≡ dir ++ z ∷ [] → IsSome (tree_of nodes (dir ++ z ∷ [])) → ⊥
+    found_twice : (nodes : List (Option NodeAt)) (dir : List (List ℕ)) (z : List ℕ) (a : NodeAt) → ArePathsApart (Some a ∷ nodes) → a.path ≡ dir ++ z ∷ [] → IsSome (tree_of nodes (dir ++ z ∷ [])) → ⊥
     found_twice nodes dir z a all whole some =
         elim (tree_of nodes (dir ++ z ∷ [])) as (λ o. tree_of nodes (dir ++ z ∷ []) ≡ o → IsSome o → ⊥) [
           | None ↦ λ e some. absurd (let no : false ≡ true = some in cc)
           | Some node ↦ λ e some.
               let other = found_at nodes (dir ++ z ∷ []) node e in
-              let one : suc other.place ≡ 0 = all.apart (suc other.place) 0 other.named a other.at refl (other.path_is ∙ sym whole) in
+              let one : suc other.place ≡ 0 = all.apart (suc other.place) 0 other.itself a other.at refl (other.path_is ∙ sym whole) in
               absurd (omega arith)
         ] refl some
 
-    once_with : (nodes : List (Option Named)) (dir : List (List ℕ)) (z : List ℕ) (a : Named) (x : List ℕ) → ArePathsApart (Some a ∷ nodes) → name_after dir a.path ≡ Some x → times z (names_below (paths_of nodes) dir) ≤ 1 → times z (x ∷ names_below (paths_of nodes) dir) ≤ 1
+    once_with : (nodes : List (Option NodeAt)) (dir : List (List ℕ)) (z : List ℕ) (a : NodeAt) (x : List ℕ) → ArePathsApart (Some a ∷ nodes) → name_after dir a.path ≡ Some x → times z (names_below (paths_of nodes) dir) ≤ 1 → times z (x ∷ names_below (paths_of nodes) dir) ≤ 1
     once_with nodes dir z a x all e rest = elim (cases_Bool (bytes_eq z x)) [
       | inl same ↦ elim (cases_lt 0 (times z (names_below (paths_of nodes) dir))) [
         | inl more ↦
@@ -119,7 +119,7 @@ once_below (Some a ∷ nodes) dir z all =
       | inr other ↦ rw other (omega arith)
     ]
 
-pub they_rise : (nodes : List (Option Named)) (dir : ℕ) → ArePathsApart nodes → Rise (names_in nodes dir)
+pub they_rise : (nodes : List (Option NodeAt)) (dir : ℕ) → ArePathsApart nodes → Rise (names_in nodes dir)
 unfolding names_in
 they_rise nodes dir all =
     let names : List (List ℕ) = names_below (paths_of nodes) (path_of nodes dir) in
@@ -142,7 +142,7 @@ at_least z xs ys has once = elim (cases_lt 0 (times z xs)) [
   | inr none ↦ omega arith
 ]
 
-pub only_names : (nodes : List (Option Named)) (dir : ℕ) (names : List (List ℕ)) → ArePathsApart nodes → AreBelow nodes (path_of nodes dir) names → Rise names → names ≡ names_in nodes dir
+pub only_names : (nodes : List (Option NodeAt)) (dir : ℕ) (names : List (List ℕ)) → ArePathsApart nodes → AreBelow nodes (path_of nodes dir) names → Rise names → names ≡ names_in nodes dir
 only_names nodes dir names all below up =
     let theirs = they_rise nodes dir all in
     let whole : AreBelow nodes (path_of nodes dir) (names_in nodes dir) = are_below nodes dir in
@@ -154,14 +154,14 @@ only_names nodes dir names all below up =
 
 -- ---- a text holds the most names that fit
 
-it_fits : (names : List (List ℕ)) → fits names ≡ true → length (joined names) ≤ 4096
-it_fits names e = ltb-false 4096 (length (joined names)) (not-true (nat_lt 4096 (length (joined names))) e)
+it_fits : (names : List (List ℕ)) → fits names ≡ true → length (join_names names) ≤ 4096
+it_fits names e = ltb-false 4096 (length (join_names names)) (not-true (nat_lt 4096 (length (join_names names))) e)
 
-too_long : (names : List (List ℕ)) → fits names ≡ false → 4096 < length (joined names)
-too_long names e = ltb-true 4096 (length (joined names)) (not-false (nat_lt 4096 (length (joined names))) e)
+too_long : (names : List (List ℕ)) → fits names ≡ false → 4096 < length (join_names names)
+too_long names e = ltb-true 4096 (length (join_names names)) (not-false (nat_lt 4096 (length (join_names names))) e)
 
-most_from : (names : List (List ℕ)) (left count : ℕ) → count + left ≡ length names → fits (take count names) ≡ true → IsMostOf names (joined (fitting (take count names) (drop count names)))
-unfolding fitting
+most_from : (names : List (List ℕ)) (left count : ℕ) → count + left ≡ length names → fits (take count names) ≡ true → IsMostOf names (join_names (most_that_fit (take count names) (drop count names)))
+unfolding most_that_fit
 most_from names zero count all fit =
     rw (drop_all count names (omega (arith, all))) (record { count = count; within = omega (arith, all); whole = refl; fit = it_fits (take count names) fit; most = λ below. absurd (omega (arith, all)) })
 most_from names (suc left) count all fit =
@@ -169,14 +169,14 @@ most_from names (suc left) count all fit =
     let more : take (suc count) names ≡ take count names ++ get_or names count [] ∷ [] = take-suc names count [] below in
     elim (cases_Bool (fits (take count names ++ get_or names count [] ∷ []))) [
       | inl fit_too ↦
-          let step : fitting (take count names) (drop count names) ≡ fitting (take (suc count) names) (drop (suc count) names) =
-          next_is names count below ∙ ap (λ b. cond b (fitting (take count names ++ get_or names count [] ∷ []) (drop (suc count) names)) (take count names)) fit_too ∙ ap (λ l. fitting l (drop (suc count) names)) (sym more) in
-          subst (λ l. IsMostOf names (joined l)) (sym step) (most_from names left (suc count) (omega (arith, all)) (ap fits more ∙ fit_too))
+          let step : most_that_fit (take count names) (drop count names) ≡ most_that_fit (take (suc count) names) (drop (suc count) names) =
+          next_is names count below ∙ ap (λ b. cond b (most_that_fit (take count names ++ get_or names count [] ∷ []) (drop (suc count) names)) (take count names)) fit_too ∙ ap (λ l. most_that_fit l (drop (suc count) names)) (sym more) in
+          subst (λ l. IsMostOf names (join_names l)) (sym step) (most_from names left (suc count) (omega (arith, all)) (ap fits more ∙ fit_too))
       | inr full ↦
-          let step : fitting (take count names) (drop count names) ≡ take count names =
-          next_is names count below ∙ ap (λ b. cond b (fitting (take count names ++ get_or names count [] ∷ []) (drop (suc count) names)) (take count names)) full in
-          let over : 4096 < length (joined (take (count + 1) names)) = rw (add-one, more) (too_long (take count names ++ get_or names count [] ∷ []) full) in
-          subst (λ l. IsMostOf names (joined l)) (sym step) (record { count = count; within = omega arith; whole = refl; fit = it_fits (take count names) fit; most = λ below. over })
+          let step : most_that_fit (take count names) (drop count names) ≡ take count names =
+          next_is names count below ∙ ap (λ b. cond b (most_that_fit (take count names ++ get_or names count [] ∷ []) (drop (suc count) names)) (take count names)) full in
+          let over : 4096 < length (join_names (take (count + 1) names)) = rw (add-one, more) (too_long (take count names ++ get_or names count [] ∷ []) full) in
+          subst (λ l. IsMostOf names (join_names l)) (sym step) (record { count = count; within = omega arith; whole = refl; fit = it_fits (take count names) fit; most = λ below. over })
     ]
 
 pub most_of : (names : List (List ℕ)) (from : ℕ) → IsMostOf (drop from names) (names_text names from)

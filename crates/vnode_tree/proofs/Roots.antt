@@ -5,17 +5,17 @@ use Rattle.std.specs.Prelude.{IsSome, is_some, sum_by}
 use Rattle.std.proofs.lemmas.List.{get_or-set_same, get_or-set_other}
 use Rattle.std.proofs.lemmas.List.Sums.{sum_by-cons}
 use Rattle.std.proofs.lemmas.Bool.{cases_eq}
-use Rattle.access_rule.specs.Tree.{is_dir}
+use Rattle.tree_model.specs.Tree.{is_dir}
 use Rattle.sys_types.specs.declared.node.Kind.TheVariants as kind
 use Rattle.vnode_tree.specs.declared.entry.Entry.{Entry}
-use Rattle.vnode_tree.specs.Nodes.{Named, named_at, same_path, tree_of}
+use Rattle.vnode_tree.specs.Nodes.{NodeAt, node_at, same_path, tree_of}
 use Rattle.vnode_tree.specs.Links.{entry_at, path_up, record_in, nodes_of}
 use Rattle.vnode_tree.specs.Kept.{IsKept, size_in}
 use Rattle.vnode_tree.specs.Standard.{IsMapOf}
 use Rattle.vnode_tree.proofs.Paths.{root_path}
 use Rattle.vnode_tree.proofs.Counts.{live_within, count_without}
 use Rattle.vnode_tree.proofs.Trees.{path_true, at_its_path, none_there}
-use Rattle.vnode_tree.proofs.Tables.{placed, listed, paths_apart}
+use Rattle.vnode_tree.proofs.Tables.{has_path, listed, paths_apart}
 use Rattle.vnode_tree.proofs.Files.{space_is}
 
 -- a table with a root and nothing else
@@ -59,7 +59,7 @@ root_kept entries root size t is = record {
   root = (root, t.first, is.name, is.kind);
   names = λ n e at other. absurd (other (only_root entries root n e t at).0);
   above = λ n e at other. absurd (other (only_root entries root n e t at).0);
-  placed = λ n live. elim (cases_eq n 0) [
+  paths = λ n live. elim (cases_eq n 0) [
     | inl here ↦ subst (λ o. IsSome o) (sym (ap (path_up (length entries) entries) here ∙ subst (λ k. path_up k entries 0 ≡ Some []) (sym size) (root_path 1023 entries root t.first))) refl
     | inr other ↦ absurd (let no : is_some (entry_at entries n) ≡ false = ap is_some (t.others n other) in cc)
   ];
@@ -75,26 +75,26 @@ root_kept entries root size t is = record {
 }
 
 -- the node of the root
-pub root_named : (entries : List (Option Entry)) (root : Entry) → length entries ≡ 1024 → IsRootTable entries root → IsRoot root → named_at (nodes_of entries) 0 ≡ Some (record { path = []; node = record_in root })
+pub root_named : (entries : List (Option Entry)) (root : Entry) → length entries ≡ 1024 → IsRootTable entries root → IsRoot root → node_at (nodes_of entries) 0 ≡ Some (record { path = []; node = record_in root })
 root_named entries root size t is =
     let kept = root_kept entries root size t is in
-    let there = placed entries 0 root kept t.first in
+    let there = has_path entries 0 root kept t.first in
     let up : path_up (length entries) entries 0 ≡ Some [] = subst (λ k. path_up k entries 0 ≡ Some []) (sym size) (root_path 1023 entries root t.first) in
     let same : there.path ≡ [] = let both : Some there.path ≡ Some [] = sym there.up ∙ up in cc in
-    there.named ∙ ap (λ (p : List (List ℕ)). Some (record { path = p; node = record_in root })) same
+    there.itself ∙ ap (λ (p : List (List ℕ)). Some (record { path = p; node = record_in root })) same
 
-nothing_else : (entries : List (Option Entry)) (root : Entry) (n : ℕ) (named : Named) → length entries ≡ 1024 → IsRootTable entries root → IsRoot root → named_at (nodes_of entries) n ≡ Some named → (n ≡ 0) × (named.path ≡ [])
-nothing_else entries root n named size t is at =
-    let found = listed entries n named at in
+nothing_else : (entries : List (Option Entry)) (root : Entry) (n : ℕ) (node : NodeAt) → length entries ≡ 1024 → IsRootTable entries root → IsRoot root → node_at (nodes_of entries) n ≡ Some node → (n ≡ 0) × (node.path ≡ [])
+nothing_else entries root n node size t is at =
+    let found = listed entries n node at in
     let here = (only_root entries root n found.entry t found.at).0 in
-    let both : Some named ≡ Some (record { path = []; node = record_in root }) = sym at ∙ ap (named_at (nodes_of entries)) here ∙ root_named entries root size t is in
-    let same : named ≡ record { path = []; node = record_in root } = cc in
-    (here, ap (λ (x : Named). x.path) same)
+    let both : Some node ≡ Some (record { path = []; node = record_in root }) = sym at ∙ ap (node_at (nodes_of entries)) here ∙ root_named entries root size t is in
+    let same : node ≡ record { path = []; node = record_in root } = cc in
+    (here, ap (λ (x : NodeAt). x.path) same)
 
-dead : (entries : List (Option Entry)) (root : Entry) (k : ℕ) → length entries ≡ 1024 → IsRootTable entries root → IsRoot root → k ≢ 0 → named_at (nodes_of entries) k ≡ None
-dead entries root k size t is other = elim (named_at (nodes_of entries) k) as (λ o. named_at (nodes_of entries) k ≡ o → o ≡ None) [
+dead : (entries : List (Option Entry)) (root : Entry) (k : ℕ) → length entries ≡ 1024 → IsRootTable entries root → IsRoot root → k ≢ 0 → node_at (nodes_of entries) k ≡ None
+dead entries root k size t is other = elim (node_at (nodes_of entries) k) as (λ o. node_at (nodes_of entries) k ≡ o → o ≡ None) [
   | None ↦ λ e. refl
-  | Some named ↦ λ e. absurd (other (nothing_else entries root k named size t is e).0)
+  | Some node ↦ λ e. absurd (other (nothing_else entries root k node size t is e).0)
 ] refl
 
 sizes_zero : (entries : List (Option Entry)) (root : Entry) → IsRootTable entries root → IsRoot root → sum_by size_in entries ≡ 0
@@ -108,21 +108,21 @@ pub root_map : (entries : List (Option Entry)) (root : Entry) → length entries
 unfolding tree_of
 root_map entries root size t is =
     let kept = root_kept entries root size t is in
-    let named = root_named entries root size t is in
+    let node = root_named entries root size t is in
     let none : (k : ℕ) → cond (is_some (get_or (set (nodes_of entries) 0 None) k None)) 1 0 ≡ 0 = λ k. elim (cases_eq k 0) [
-      | inl here ↦ ap (λ i. cond (is_some (get_or (set (nodes_of entries) 0 None) i None)) 1 0) here ∙ ap (λ (o : Option Named). cond (is_some o) 1 0) (get_or-set_same (nodes_of entries) 0 None None (live_within (nodes_of entries) 0 (record { path = []; node = record_in root }) named))
-      | inr other ↦ ap (λ (o : Option Named). cond (is_some o) 1 0) (get_or-set_other (nodes_of entries) 0 k None None other ∙ dead entries root k size t is other)
+      | inl here ↦ ap (λ i. cond (is_some (get_or (set (nodes_of entries) 0 None) i None)) 1 0) here ∙ ap (λ (o : Option NodeAt). cond (is_some o) 1 0) (get_or-set_same (nodes_of entries) 0 None None (live_within (nodes_of entries) 0 (record { path = []; node = record_in root }) node))
+      | inr other ↦ ap (λ (o : Option NodeAt). cond (is_some o) 1 0) (get_or-set_other (nodes_of entries) 0 k None None other ∙ dead entries root k size t is other)
     ] in
     record {
       there = fun_ext (λ p. elim (same_path p []) as (λ b. same_path p [] ≡ b → tree_of (nodes_of entries) p ≡ cond b (Some (record_in root)) None) [
-        | true ↦ λ e. ap (tree_of (nodes_of entries)) (path_true p [] e) ∙ at_its_path (nodes_of entries) 0 (record { path = []; node = record_in root }) (paths_apart entries kept) named
+        | true ↦ λ e. ap (tree_of (nodes_of entries)) (path_true p [] e) ∙ at_its_path (nodes_of entries) 0 (record { path = []; node = record_in root }) (paths_apart entries kept) node
         | false ↦ λ e. none_there (nodes_of entries) p (λ m b at same.
             let path = (nothing_else entries root m b size t is at).1 in
             let yes : same_path p [] ≡ true = ap (λ q. same_path q []) (sym same ∙ path) in
             let wrong : true ≡ false = sym yes ∙ e in
             cc)
       ] refl);
-      count = omega (arith, count_without (nodes_of entries) 0 (record { path = []; node = record_in root }) named, sum_zero (λ (o : Option Named). cond (is_some o) 1 0) (set (nodes_of entries) 0 None) none);
+      count = omega (arith, count_without (nodes_of entries) 0 (record { path = []; node = record_in root }) node, sum_zero (λ (o : Option NodeAt). cond (is_some o) 1 0) (set (nodes_of entries) 0 None) none);
       space = space_is entries (nodes_of entries) refl kept ∙ sizes_zero entries root t is ∙ sym (ap (λ (xs : List ℕ). 0 + length xs) is.empty);
     }
 

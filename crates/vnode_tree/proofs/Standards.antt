@@ -10,7 +10,7 @@ use Rattle.std.proofs.lemmas.List.FromFn.{map-range_with_len_more}
 use Rattle.sys_types.specs.declared.image.Image.TheVariants as image
 use Rattle.sys_types.specs.declared.image.Image.{Image}
 use Rattle.sys_types.specs.Images.{images, image_name}
-use Rattle.vnode_tree.specs.Nodes.{Named, named_at, tree_of}
+use Rattle.vnode_tree.specs.Nodes.{NodeAt, node_at, tree_of}
 use Rattle.vnode_tree.specs.Contents.{space_of}
 use Rattle.vnode_tree.specs.Standard.{IsMapOf, can_add, standard_dirs, image_node, bin_node, dev_node, etc_node, line_name, line_node, with_images, with_lines, list_nodes, tty_text}
 use Rattle.vnode_tree.proofs.Maps.{all_some, can_join, can_add_is, both_true}
@@ -20,12 +20,12 @@ both true b p q = q
 both false b p q = absurd cc
 
 -- what fits with more bytes fits with fewer
-join_fewer : (nodes : List Named) (parent : Named) (name : List ℕ) (more size : ℕ) → size ≤ more → can_join nodes parent name more ≡ true → can_join nodes parent name size ≡ true
+join_fewer : (nodes : List NodeAt) (parent : NodeAt) (name : List ℕ) (more size : ℕ) → size ≤ more → can_join nodes parent name more ≡ true → can_join nodes parent name size ≡ true
 join_fewer nodes parent name more size fewer e =
     let parts = both_true _ (nat_le (space_of (all_some nodes) + more) 4194304) e in
     both _ (nat_le (space_of (all_some nodes) + size) 4194304) parts.0 (le-leb (space_of (all_some nodes) + size) 4194304 (omega (arith, leb-true (space_of (all_some nodes) + more) 4194304 parts.1, fewer)))
 
-pub adds : (table : List (Option Named)) (nodes : List Named) (parent : Named) (dir : ℕ) (name : List ℕ) (more size : ℕ) → IsMapOf table nodes → named_at table dir ≡ Some parent → size ≤ more → can_join nodes parent name more ≡ true → IsTrue (can_add table dir name size)
+pub adds : (table : List (Option NodeAt)) (nodes : List NodeAt) (parent : NodeAt) (dir : ℕ) (name : List ℕ) (more size : ℕ) → IsMapOf table nodes → node_at table dir ≡ Some parent → size ≤ more → can_join nodes parent name more ≡ true → IsTrue (can_add table dir name size)
 adds table nodes parent dir name more size m at fewer e = can_add_is table nodes parent dir name size m at (join_fewer nodes parent name more size fewer e)
 
 -- a test of each number below a bound

@@ -6,8 +6,8 @@ use Rattle.std.proofs.lemmas.List.{get_or-set_same, get_or-set_other, ext_get_or
 use Rattle.std.proofs.lemmas.List.FromFn.{get_or-map-range_with_len, length-map-range_with_len}
 use Rattle.std.proofs.lemmas.Bool.{cases_eq, cases_lt}
 use Rattle.vnode_tree.specs.declared.entry.Entry.{Entry}
-use Rattle.vnode_tree.specs.Nodes.{Named, named_at}
-use Rattle.vnode_tree.specs.Links.{entry_at, path_up, record_in, named_in, named_of, nodes_of}
+use Rattle.vnode_tree.specs.Nodes.{NodeAt, node_at}
+use Rattle.vnode_tree.specs.Links.{entry_at, path_up, record_in, node_from, node_of, nodes_of}
 use Rattle.vnode_tree.specs.Kept.{IsKept}
 use Rattle.vnode_tree.proofs.Paths.{path_is, Has, kept_path}
 use Rattle.vnode_tree.proofs.Trees.{ArePathsApart}
@@ -15,55 +15,55 @@ use Rattle.vnode_tree.proofs.Trees.{ArePathsApart}
 -- there are as many places
 pub length-nodes : (entries : List (Option Entry)) → length (nodes_of entries) ≡ length entries
 unfolding nodes_of
-length-nodes entries = length-map-range_with_len (named_of entries) 0 (length entries)
+length-nodes entries = length-map-range_with_len (node_of entries) 0 (length entries)
 
-nothing_past : (entries : List (Option Entry)) (n : ℕ) → length entries ≤ n → named_of entries n ≡ None
-unfolding named_of
+nothing_past : (entries : List (Option Entry)) (n : ℕ) → length entries ≤ n → node_of entries n ≡ None
+unfolding node_of
 nothing_past entries n past = rw (get_or_past entries n None past) refl
 
 -- a place has its node
-pub named_is : (entries : List (Option Entry)) (n : ℕ) → named_at (nodes_of entries) n ≡ named_of entries n
+pub named_is : (entries : List (Option Entry)) (n : ℕ) → node_at (nodes_of entries) n ≡ node_of entries n
 unfolding nodes_of
 named_is entries n = elim (cases_lt n (length entries)) [
-  | inl below ↦ get_or-map-range_with_len (named_of entries) 0 (length entries) n n None below (omega arith)
-  | inr past ↦ get_or_past (map (named_of entries) (range_with_len 0 (length entries))) n None (omega (arith, length-map-range_with_len (named_of entries) 0 (length entries), past)) ∙ sym (nothing_past entries n past)
+  | inl below ↦ get_or-map-range_with_len (node_of entries) 0 (length entries) n n None below (omega arith)
+  | inr past ↦ get_or_past (map (node_of entries) (range_with_len 0 (length entries))) n None (omega (arith, length-map-range_with_len (node_of entries) 0 (length entries), past)) ∙ sym (nothing_past entries n past)
 ]
 
 -- an entry with its path
-pub record Placed (entries : List (Option Entry)) (n : ℕ) (entry : Entry) : Type 0 where
+pub record HasPath (entries : List (Option Entry)) (n : ℕ) (entry : Entry) : Type 0 where
   pub path : List (List ℕ)
   pub up : path_up (length entries) entries n ≡ Some path
-  pub named : named_at (nodes_of entries) n ≡ Some (record { path = path; node = record_in entry })
+  pub itself : node_at (nodes_of entries) n ≡ Some (record { path = path; node = record_in entry })
 
-pub placed : (entries : List (Option Entry)) (n : ℕ) (entry : Entry) → IsKept entries → entry_at entries n ≡ Some entry → Placed entries n entry
-unfolding named_of
-placed entries n entry kept at =
+pub has_path : (entries : List (Option Entry)) (n : ℕ) (entry : Entry) → IsKept entries → entry_at entries n ≡ Some entry → HasPath entries n entry
+unfolding node_of
+has_path entries n entry kept at =
     let live : IsSome (entry_at entries n) = subst (λ o. IsSome o) (sym at) refl in
-    elim (path_up (length entries) entries n) as (λ o. path_up (length entries) entries n ≡ o → IsSome o → Placed entries n entry) [
+    elim (path_up (length entries) entries n) as (λ o. path_up (length entries) entries n ≡ o → IsSome o → HasPath entries n entry) [
       | None ↦ λ up some. absurd (let no : false ≡ true = some in cc)
       | Some path ↦ λ up some.
-          let whole : named_of entries n ≡ Some (record { path = path; node = record_in entry }) = rw (at, up) refl in
-          record { path = path; up = up; named = named_is entries n ∙ whole }
-    ] refl (kept.placed n live)
+          let whole : node_of entries n ≡ Some (record { path = path; node = record_in entry }) = rw (at, up) refl in
+          record { path = path; up = up; itself = named_is entries n ∙ whole }
+    ] refl (kept.paths n live)
 
--- a node that is named is an entry
-pub record Listed (entries : List (Option Entry)) (n : ℕ) (named : Named) : Type 0 where
+-- a node of a number is an entry
+pub record EntryOf (entries : List (Option Entry)) (n : ℕ) (node : NodeAt) : Type 0 where
   pub entry : Entry
   pub at : entry_at entries n ≡ Some entry
-  pub up : path_up (length entries) entries n ≡ Some named.path
-  pub node : record_in entry ≡ named.node
+  pub up : path_up (length entries) entries n ≡ Some node.path
+  pub record_is : record_in entry ≡ node.node
 
-pub listed : (entries : List (Option Entry)) (n : ℕ) (named : Named) → named_at (nodes_of entries) n ≡ Some named → Listed entries n named
-unfolding named_of
-listed entries n named at =
-    elim (entry_at entries n) as (λ o. entry_at entries n ≡ o → named_in o (path_up (length entries) entries n) ≡ Some named → Listed entries n named) [
+pub listed : (entries : List (Option Entry)) (n : ℕ) (node : NodeAt) → node_at (nodes_of entries) n ≡ Some node → EntryOf entries n node
+unfolding node_of
+listed entries n node at =
+    elim (entry_at entries n) as (λ o. entry_at entries n ≡ o → node_from o (path_up (length entries) entries n) ≡ Some node → EntryOf entries n node) [
       | None ↦ λ is e. absurd cc
       | Some entry ↦ λ is e.
-          elim (path_up (length entries) entries n) as (λ o. path_up (length entries) entries n ≡ o → named_in (Some entry) o ≡ Some named → Listed entries n named) [
+          elim (path_up (length entries) entries n) as (λ o. path_up (length entries) entries n ≡ o → node_from (Some entry) o ≡ Some node → EntryOf entries n node) [
             | None ↦ λ up e. absurd cc
             | Some path ↦ λ up e.
-                let same : record { path = path; node = record_in entry } ≡ named = cc in
-                record { entry = entry; at = is; up = up ∙ ap (λ (x : Named). Some x.path) same; node = ap (λ (x : Named). x.node) same }
+                let same : record { path = path; node = record_in entry } ≡ node = cc in
+                record { entry = entry; at = is; up = up ∙ ap (λ (x : NodeAt). Some x.path) same; record_is = ap (λ (x : NodeAt). x.node) same }
           ] refl e
     ] refl (sym (named_is entries n) ∙ at)
 
@@ -106,23 +106,23 @@ paths_apart entries kept = record {
 }
 
 -- nodes after a change of one place
-pub nodes_after : (entries others : List (Option Entry)) (n : ℕ) (x : Option Named) → length others ≡ length entries → n < length entries → named_of others n ≡ x → ((m : ℕ) → m ≢ n → named_of others m ≡ named_of entries m) → nodes_of others ≡ set (nodes_of entries) n x
+pub nodes_after : (entries others : List (Option Entry)) (n : ℕ) (x : Option NodeAt) → length others ≡ length entries → n < length entries → node_of others n ≡ x → ((m : ℕ) → m ≢ n → node_of others m ≡ node_of entries m) → nodes_of others ≡ set (nodes_of entries) n x
 nodes_after entries others n x size below here same =
     ext_get_or None (nodes_of others) (set (nodes_of entries) n x) (length-nodes others ∙ size ∙ sym (length-set (nodes_of entries) n x ∙ length-nodes entries)) (λ m inside.
     elim (cases_eq m n) [
-      | inl is ↦ ap (named_at (nodes_of others)) is ∙ named_is others n ∙ here ∙ sym (ap (λ i. get_or (set (nodes_of entries) n x) i None) is ∙ get_or-set_same (nodes_of entries) n x None (omega (arith, length-nodes entries)))
+      | inl is ↦ ap (node_at (nodes_of others)) is ∙ named_is others n ∙ here ∙ sym (ap (λ i. get_or (set (nodes_of entries) n x) i None) is ∙ get_or-set_same (nodes_of entries) n x None (omega (arith, length-nodes entries)))
       | inr other ↦ named_is others m ∙ same m other ∙ sym (named_is entries m) ∙ sym (get_or-set_other (nodes_of entries) n m x None other)
     ])
 
 -- a place that has not changed keeps its node
-pub named_stays : (P : ℕ → Type 0) (entries others : List (Option Entry)) (m : ℕ) → IsKept entries → length others ≡ length entries → Has P entries others → ((entry : Entry) → entry_at entries m ≡ Some entry → P m) → entry_at others m ≡ entry_at entries m → named_of others m ≡ named_of entries m
-unfolding named_of
+pub named_stays : (P : ℕ → Type 0) (entries others : List (Option Entry)) (m : ℕ) → IsKept entries → length others ≡ length entries → Has P entries others → ((entry : Entry) → entry_at entries m ≡ Some entry → P m) → entry_at others m ≡ entry_at entries m → node_of others m ≡ node_of entries m
+unfolding node_of
 named_stays P entries others m kept size has in_p same =
-    elim (entry_at entries m) as (λ o. entry_at entries m ≡ o → named_of others m ≡ named_of entries m) [
+    elim (entry_at entries m) as (λ o. entry_at entries m ≡ o → node_of others m ≡ node_of entries m) [
       | None ↦ λ at. let there : entry_at others m ≡ None = same ∙ at in rw (at, there) refl
       | Some entry ↦ λ at.
           let there : entry_at others m ≡ Some entry = same ∙ at in
-          let is = placed entries m entry kept at in
+          let is = has_path entries m entry kept at in
           let up : path_up (length others) others m ≡ Some is.path = subst (λ k. path_up k others m ≡ Some is.path) (sym size) (kept_path P (length entries) entries others m is.path has (in_p entry at) is.up) in
           rw (at, there, up, is.up) refl
     ] refl

@@ -2,8 +2,8 @@
 use Rattle.std.proofs.Common.{◌≡◌, ◌≢◌, ℕ, zero, suc, ◌<◌, Bool, true, false, cond, ◌&&◌, List, [], ◌∷◌, length, set, Option, Some, None, option_map, refl, sym, ap, ◌∙◌, arith, subst}
 use Rattle.std.specs.Str.{bytes_eq}
 use Rattle.std.proofs.lemmas.Slice.Eq.{bytes_eq-Decides}
-use Rattle.access_rule.specs.Tree.{NodeRecord}
-use Rattle.vnode_tree.specs.Nodes.{Named, named_at, same_path, tree_of, ChangesAt}
+use Rattle.tree_model.specs.Tree.{NodeRecord}
+use Rattle.vnode_tree.specs.Nodes.{NodeAt, node_at, same_path, tree_of, ChangesAt}
 
 both_true : (a b : Bool) → (a && b) ≡ true → (a ≡ true) × (b ≡ true)
 both_true true b e = (refl, e)
@@ -30,53 +30,53 @@ path_false p q apart = elim (same_path p q) as (λ b. same_path p q ≡ b → b 
 ] refl
 
 -- no two nodes have one path
-pub record ArePathsApart (nodes : List (Option Named)) : Type 0 where
-  pub apart : (n m : ℕ) (a b : Named) → named_at nodes n ≡ Some a → named_at nodes m ≡ Some b → a.path ≡ b.path → n ≡ m
+pub record ArePathsApart (nodes : List (Option NodeAt)) : Type 0 where
+  pub apart : (n m : ℕ) (a b : NodeAt) → node_at nodes n ≡ Some a → node_at nodes m ≡ Some b → a.path ≡ b.path → n ≡ m
 
-pub tail_apart : (x : Option Named) (nodes : List (Option Named)) → ArePathsApart (x ∷ nodes) → ArePathsApart nodes
+pub tail_apart : (x : Option NodeAt) (nodes : List (Option NodeAt)) → ArePathsApart (x ∷ nodes) → ArePathsApart nodes
 tail_apart x nodes all = record { apart = λ n m a b at there same. let one : suc n ≡ suc m = all.apart (suc n) (suc m) a b at there same in omega arith }
 
 -- a place may have a path: it has it or is free, and no other place has it
-pub record Owns (nodes : List (Option Named)) (n : ℕ) (path : List (List ℕ)) : Type 0 where
-  pub here : (a : Named) → named_at nodes n ≡ Some a → a.path ≡ path
-  pub others : (m : ℕ) (b : Named) → named_at nodes m ≡ Some b → b.path ≡ path → m ≡ n
+pub record Owns (nodes : List (Option NodeAt)) (n : ℕ) (path : List (List ℕ)) : Type 0 where
+  pub here : (a : NodeAt) → node_at nodes n ≡ Some a → a.path ≡ path
+  pub others : (m : ℕ) (b : NodeAt) → node_at nodes m ≡ Some b → b.path ≡ path → m ≡ n
 
-pub none_there : (nodes : List (Option Named)) (path : List (List ℕ)) → ((m : ℕ) (b : Named) → named_at nodes m ≡ Some b → b.path ≢ path) → tree_of nodes path ≡ None
+pub none_there : (nodes : List (Option NodeAt)) (path : List (List ℕ)) → ((m : ℕ) (b : NodeAt) → node_at nodes m ≡ Some b → b.path ≢ path) → tree_of nodes path ≡ None
 unfolding tree_of
 none_there [] path none = refl
 none_there (None ∷ nodes) path none = none_there nodes path (λ m. none (suc m))
 none_there (Some b ∷ nodes) path none = rw (path_false path b.path (λ e. none 0 b refl (sym e))) (none_there nodes path (λ m. none (suc m)))
 
 -- what is there is at a place
-pub record FoundAt (nodes : List (Option Named)) (path : List (List ℕ)) (node : NodeRecord) : Type 0 where
+pub record FoundAt (nodes : List (Option NodeAt)) (path : List (List ℕ)) (node : NodeRecord) : Type 0 where
   pub place : ℕ
-  pub named : Named
-  pub at : named_at nodes place ≡ Some named
-  pub path_is : named.path ≡ path
-  pub node_is : named.node ≡ node
+  pub itself : NodeAt
+  pub at : node_at nodes place ≡ Some itself
+  pub path_is : itself.path ≡ path
+  pub node_is : itself.node ≡ node
 
-pub found_at : (nodes : List (Option Named)) (path : List (List ℕ)) (node : NodeRecord) → tree_of nodes path ≡ Some node → FoundAt nodes path node
+pub found_at : (nodes : List (Option NodeAt)) (path : List (List ℕ)) (node : NodeRecord) → tree_of nodes path ≡ Some node → FoundAt nodes path node
 unfolding tree_of
 found_at [] path node e = absurd cc
 found_at (None ∷ nodes) path node e =
     let rest = found_at nodes path node e in
-    record { place = suc rest.place; named = rest.named; at = rest.at; path_is = rest.path_is; node_is = rest.node_is }
+    record { place = suc rest.place; itself = rest.itself; at = rest.at; path_is = rest.path_is; node_is = rest.node_is }
 found_at (Some b ∷ nodes) path node e =
     elim (same_path path b.path) as (λ t. same_path path b.path ≡ t → cond t (Some b.node) (tree_of nodes path) ≡ Some node → FoundAt (Some b ∷ nodes) path node) [
-      | true ↦ λ t e. record { place = 0; named = b; at = refl; path_is = sym (path_true path b.path t); node_is = cc }
+      | true ↦ λ t e. record { place = 0; itself = b; at = refl; path_is = sym (path_true path b.path t); node_is = cc }
       | false ↦ λ t e.
           let rest = found_at nodes path node e in
-          record { place = suc rest.place; named = rest.named; at = rest.at; path_is = rest.path_is; node_is = rest.node_is }
+          record { place = suc rest.place; itself = rest.itself; at = rest.at; path_is = rest.path_is; node_is = rest.node_is }
     ] refl e
 
-some_there : (nodes : List (Option Named)) (n : ℕ) (a : Named) → named_at nodes n ≡ Some a → tree_of nodes a.path ≡ None → ⊥
+some_there : (nodes : List (Option NodeAt)) (n : ℕ) (a : NodeAt) → node_at nodes n ≡ Some a → tree_of nodes a.path ≡ None → ⊥
 unfolding tree_of
 some_there [] n a at e = cc
 some_there (None ∷ nodes) zero a at e = cc
 some_there (None ∷ nodes) (suc n) a at e = some_there nodes n a at e
 some_there (Some b ∷ nodes) zero a at e =
     let same : b ≡ a = cc in
-    let here : cond (same_path a.path a.path) (Some b.node) (tree_of nodes a.path) ≡ None = subst (λ (x : Named). cond (same_path a.path x.path) (Some b.node) (tree_of nodes a.path) ≡ None) same e in
+    let here : cond (same_path a.path a.path) (Some b.node) (tree_of nodes a.path) ≡ None = subst (λ (x : NodeAt). cond (same_path a.path x.path) (Some b.node) (tree_of nodes a.path) ≡ None) same e in
     let some : Some b.node ≡ None = subst (λ t. cond t (Some b.node) (tree_of nodes a.path) ≡ None) (path_refl a.path) here in
     cc
 some_there (Some b ∷ nodes) (suc n) a at e =
@@ -86,23 +86,23 @@ some_there (Some b ∷ nodes) (suc n) a at e =
     ] e
 
 -- a node is what is at its path
-pub at_its_path : (nodes : List (Option Named)) (n : ℕ) (a : Named) → ArePathsApart nodes → named_at nodes n ≡ Some a → tree_of nodes a.path ≡ Some a.node
+pub at_its_path : (nodes : List (Option NodeAt)) (n : ℕ) (a : NodeAt) → ArePathsApart nodes → node_at nodes n ≡ Some a → tree_of nodes a.path ≡ Some a.node
 at_its_path nodes n a apart at =
     elim (tree_of nodes a.path) as (λ o. tree_of nodes a.path ≡ o → o ≡ Some a.node) [
       | None ↦ λ e. absurd (some_there nodes n a at e)
       | Some node ↦ λ e.
           let found = found_at nodes a.path node e in
-          let same : found.place ≡ n = apart.apart found.place n found.named a found.at at found.path_is in
-          let there : named_at nodes n ≡ Some found.named = subst (λ i. named_at nodes i ≡ Some found.named) same found.at in
-          let one : found.named ≡ a = cc in
-          ap (λ (x : NodeRecord). Some x) (sym found.node_is ∙ ap (λ (x : Named). x.node) one)
+          let same : found.place ≡ n = apart.apart found.place n found.itself a found.at at found.path_is in
+          let there : node_at nodes n ≡ Some found.itself = subst (λ i. node_at nodes i ≡ Some found.itself) same found.at in
+          let one : found.itself ≡ a = cc in
+          ap (λ (x : NodeRecord). Some x) (sym found.node_is ∙ ap (λ (x : NodeAt). x.node) one)
     ] refl
 
 -- a path, and what is there, if anything
-abbrev pub slot : List (List ℕ) → Option NodeRecord → Option Named
+abbrev pub slot : List (List ℕ) → Option NodeRecord → Option NodeAt
 slot path value = option_map (λ node. record { path = path; node = node }) value
 
-tail_owns : (x : Option Named) (nodes : List (Option Named)) (n : ℕ) (path : List (List ℕ)) → Owns (x ∷ nodes) (suc n) path → Owns nodes n path
+tail_owns : (x : Option NodeAt) (nodes : List (Option NodeAt)) (n : ℕ) (path : List (List ℕ)) → Owns (x ∷ nodes) (suc n) path → Owns nodes n path
 tail_owns x nodes n path owns = record { here = owns.here; others = λ m b at is. let same : suc m ≡ suc n = owns.others (suc m) b at is in omega arith }
 
 swapped : {X : Type 0} (a b : Bool) (x y z : X) → (a ≡ true → b ≡ true → ⊥) → cond a x (cond b y z) ≡ cond b y (cond a x z)
@@ -110,7 +110,7 @@ swapped true true x y z apart = absurd (apart refl refl)
 swapped true false x y z apart = refl
 swapped false b x y z apart = refl
 
-head_owns : (x : Option Named) (nodes : List (Option Named)) (path other : List (List ℕ)) → Owns (x ∷ nodes) 0 path → tree_of nodes path ≡ None → (value : Option NodeRecord) → cond (same_path other path) value (tree_of nodes other) ≡ cond (same_path other path) value (tree_of (x ∷ nodes) other)
+head_owns : (x : Option NodeAt) (nodes : List (Option NodeAt)) (path other : List (List ℕ)) → Owns (x ∷ nodes) 0 path → tree_of nodes path ≡ None → (value : Option NodeRecord) → cond (same_path other path) value (tree_of nodes other) ≡ cond (same_path other path) value (tree_of (x ∷ nodes) other)
 unfolding tree_of
 head_owns None nodes path other owns none value = refl
 head_owns (Some a) nodes path other owns none value =
@@ -120,7 +120,7 @@ head_owns (Some a) nodes path other owns none value =
       | false ↦ λ t. rw (is, t) refl
     ] refl
 
-head_put : (x : Option Named) (nodes : List (Option Named)) (path other : List (List ℕ)) (value : Option NodeRecord) → tree_of nodes path ≡ None → tree_of (slot path value ∷ nodes) other ≡ cond (same_path other path) value (tree_of nodes other)
+head_put : (x : Option NodeAt) (nodes : List (Option NodeAt)) (path other : List (List ℕ)) (value : Option NodeRecord) → tree_of nodes path ≡ None → tree_of (slot path value ∷ nodes) other ≡ cond (same_path other path) value (tree_of nodes other)
 unfolding tree_of
 head_put x nodes path other None none =
     elim (same_path other path) as (λ t. same_path other path ≡ t → tree_of nodes other ≡ cond t None (tree_of nodes other)) [
@@ -129,7 +129,7 @@ head_put x nodes path other None none =
     ] refl
 head_put x nodes path other (Some node) none = refl
 
-put_at : (nodes : List (Option Named)) (n : ℕ) (path other : List (List ℕ)) (value : Option NodeRecord) → n < length nodes → Owns nodes n path → tree_of (set nodes n (slot path value)) other ≡ cond (same_path other path) value (tree_of nodes other)
+put_at : (nodes : List (Option NodeAt)) (n : ℕ) (path other : List (List ℕ)) (value : Option NodeRecord) → n < length nodes → Owns nodes n path → tree_of (set nodes n (slot path value)) other ≡ cond (same_path other path) value (tree_of nodes other)
 unfolding tree_of
 put_at [] n path other value below owns = absurd (omega arith)
 put_at (x ∷ nodes) zero path other value below owns =
@@ -144,5 +144,5 @@ put_at (Some a ∷ nodes) (suc n) path other value below owns =
     omega arith)
 
 -- a change of a place changes what is at its path alone
-pub changes_at : (nodes : List (Option Named)) (n : ℕ) (path : List (List ℕ)) (value : Option NodeRecord) → n < length nodes → Owns nodes n path → ChangesAt path value nodes (set nodes n (slot path value))
+pub changes_at : (nodes : List (Option NodeAt)) (n : ℕ) (path : List (List ℕ)) (value : Option NodeRecord) → n < length nodes → Owns nodes n path → ChangesAt path value nodes (set nodes n (slot path value))
 changes_at nodes n path value below owns = record { only = λ other. put_at nodes n path other value below owns }

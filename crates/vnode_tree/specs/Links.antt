@@ -4,9 +4,9 @@ use Rattle.std.specs.List.{range_with_len}
 use Rattle.std.specs.Str.{bytes_eq}
 use Rattle.acl_core.specs.declared.entry.Entry.{Entry as ListEntry}
 use Rattle.access_rule.specs.declared.Attrs.{Attrs}
-use Rattle.access_rule.specs.Tree.{NodeRecord}
+use Rattle.tree_model.specs.Tree.{NodeRecord}
 use Rattle.vnode_tree.specs.declared.entry.Entry.{Entry}
-use Rattle.vnode_tree.specs.Nodes.{Named}
+use Rattle.vnode_tree.specs.Nodes.{NodeAt}
 
 abbrev pub entry_at : List (Option Entry) → ℕ → Option Entry
 entry_at entries number = slice_index_or entries number None
@@ -30,18 +30,18 @@ path_up (suc more) entries number = path_above (entry_at entries number) number 
 abbrev pub record_in : Entry → NodeRecord
 record_in entry = record { kind = entry.kind; attrs = entry.attrs; default = entry.default; contents = entry.contents }
 
-abbrev pub named_in : Option Entry → Option (List (List ℕ)) → Option Named
-named_in None path = None
-named_in (Some entry) None = None
-named_in (Some entry) (Some path) = Some (record { path = path; node = record_in entry })
+abbrev pub node_from : Option Entry → Option (List (List ℕ)) → Option NodeAt
+node_from None path = None
+node_from (Some entry) None = None
+node_from (Some entry) (Some path) = Some (record { path = path; node = record_in entry })
 
 -- a node with its path
-unfoldable pub named_of : List (Option Entry) → ℕ → Option Named
-named_of entries number = named_in (entry_at entries number) (path_up (length entries) entries number)
+unfoldable pub node_of : List (Option Entry) → ℕ → Option NodeAt
+node_of entries number = node_from (entry_at entries number) (path_up (length entries) entries number)
 
 -- all nodes
-unfoldable pub nodes_of : List (Option Entry) → List (Option Named)
-nodes_of entries = map (named_of entries) (range_with_len 0 (length entries))
+unfoldable pub nodes_of : List (Option Entry) → List (Option NodeAt)
+nodes_of entries = map (node_of entries) (range_with_len 0 (length entries))
 
 -- an entry is of that name in that directory
 abbrev pub is_child : ℕ → List ℕ → Option Entry → Bool

@@ -5,36 +5,36 @@ use Rattle.std.specs.List.{list_all}
 use Rattle.std.specs.Str.{bytes_eq}
 use Rattle.acl_core.specs.declared.entry.Entry.{Entry}
 use Rattle.access_rule.specs.declared.Attrs.{Attrs}
-use Rattle.access_rule.specs.Tree.{NodeRecord, Tree, is_file, is_skipped, is_parent, is_slash}
-pub use Rattle.access_rule.specs.Tree.{Named, new_node}
-pub use Rattle.access_rule.specs.Contents.{with_contents}
+use Rattle.tree_model.specs.Tree.{NodeRecord, Tree, is_file, is_skipped, is_parent, is_slash}
+pub use Rattle.tree_model.specs.Tree.{NodeAt, new_node}
+pub use Rattle.tree_model.specs.Contents.{with_contents}
 
 -- what there is of a node of a number, if there is such a node
-abbrev pub named_at : List (Option Named) → ℕ → Option Named
-named_at nodes number = slice_index_or nodes number None
+abbrev pub node_at : List (Option NodeAt) → ℕ → Option NodeAt
+node_at nodes number = slice_index_or nodes number None
 
 -- there is a node of the number
-abbrev pub IsLive : List (Option Named) → ℕ → Type 0
-IsLive nodes number = IsSome (named_at nodes number)
+abbrev pub IsLive : List (Option NodeAt) → ℕ → Type 0
+IsLive nodes number = IsSome (node_at nodes number)
 
-abbrev pub path_in : Option Named → List (List ℕ)
+abbrev pub path_in : Option NodeAt → List (List ℕ)
 path_in None = []
-path_in (Some named) = named.path
+path_in (Some node) = node.path
 
 -- the path of a node
-abbrev pub path_of : List (Option Named) → ℕ → List (List ℕ)
-path_of nodes number = path_in (named_at nodes number)
+abbrev pub path_of : List (Option NodeAt) → ℕ → List (List ℕ)
+path_of nodes number = path_in (node_at nodes number)
 
 -- what a node is
-abbrev pub record_of : List (Option Named) → ℕ → Option NodeRecord
-record_of nodes number = option_map (λ named. named.node) (named_at nodes number)
+abbrev pub record_of : List (Option NodeAt) → ℕ → Option NodeRecord
+record_of nodes number = option_map (λ node. node.node) (node_at nodes number)
 
 abbrev pub is_file_record : Option NodeRecord → Bool
 is_file_record None = false
 is_file_record (Some node) = is_file node.kind
 
 -- there is a file of the number
-abbrev pub IsFile : List (Option Named) → ℕ → Type 0
+abbrev pub IsFile : List (Option NodeAt) → ℕ → Type 0
 IsFile nodes number = is_file_record (record_of nodes number) ≡ true
 
 abbrev pub same_path : List (List ℕ) → List (List ℕ) → Bool
@@ -44,22 +44,22 @@ same_path (x ∷ xs) [] = false
 same_path (x ∷ xs) (y ∷ ys) = bytes_eq x y && same_path xs ys
 
 -- what is at a path
-unfoldable pub tree_of : List (Option Named) → Tree
+unfoldable pub tree_of : List (Option NodeAt) → Tree
 tree_of [] path = None
 tree_of (None ∷ nodes) path = tree_of nodes path
-tree_of (Some named ∷ nodes) path = if same_path path named.path then Some named.node else tree_of nodes path
+tree_of (Some node ∷ nodes) path = if same_path path node.path then Some node.node else tree_of nodes path
 
 -- the nodes with another in the place of a number, or with none
-abbrev pub with_node : List (Option Named) → ℕ → Option Named → List (Option Named)
-with_node nodes number named = slice_set nodes number named
+abbrev pub with_node : List (Option NodeAt) → ℕ → Option NodeAt → List (Option NodeAt)
+with_node nodes number node = slice_set nodes number node
 
 -- a node at the same path with a change of what it is
-abbrev pub changed : (NodeRecord → NodeRecord) → Named → Named
-changed change named = record { path = named.path; node = change named.node }
+abbrev pub with_change : (NodeRecord → NodeRecord) → NodeAt → NodeAt
+with_change change node = record { path = node.path; node = change node.node }
 
 -- the nodes with a change of what one of them is
-abbrev pub with_record : (NodeRecord → NodeRecord) → List (Option Named) → ℕ → List (Option Named)
-with_record change nodes number = with_node nodes number (option_map (changed change) (named_at nodes number))
+abbrev pub with_record : (NodeRecord → NodeRecord) → List (Option NodeAt) → ℕ → List (Option NodeAt)
+with_record change nodes number = with_node nodes number (option_map (with_change change) (node_at nodes number))
 
 abbrev pub with_attrs : Attrs → NodeRecord → NodeRecord
 with_attrs attrs node = record node { attrs = attrs }
@@ -72,28 +72,28 @@ abbrev pub is_name : List ℕ → Bool
 is_name name = not (is_skipped name) && not (is_parent name) && list_all (λ b. not (is_slash b)) name
 
 -- how many nodes there are
-abbrev pub count_of : List (Option Named) → ℕ
+abbrev pub count_of : List (Option NodeAt) → ℕ
 count_of nodes = count_by is_some nodes
 
 -- what is at one path has changed, and what is at every other path has not
-pub record ChangesAt (path : List (List ℕ)) (now : Option NodeRecord) (old new : List (Option Named)) : Type 0 where
+pub record ChangesAt (path : List (List ℕ)) (now : Option NodeRecord) (old new : List (Option NodeAt)) : Type 0 where
   pub only : (other : List (List ℕ)) → tree_of new other ≡ (if same_path other path then now else tree_of old other)
 
 -- the node of a number is at a path
-pub record IsAt (nodes : List (Option Named)) (path : List (List ℕ)) (number : ℕ) : Type 0 where
+pub record IsAt (nodes : List (Option NodeAt)) (path : List (List ℕ)) (number : ℕ) : Type 0 where
   pub live : IsLive nodes number
   pub here : path_of nodes number ≡ path
   pub some : is_some (tree_of nodes path) ≡ true
 
 -- no name leads on from a path
-abbrev pub IsLeaf : List (Option Named) → List (List ℕ) → Type 0
+abbrev pub IsLeaf : List (Option NodeAt) → List (List ℕ) → Type 0
 IsLeaf nodes path = (name : List ℕ) → tree_of nodes (path ++ name ∷ []) ≡ None
 
 -- a node may go: no name leads on from it, and it is not the root
-pub record IsRemovable (nodes : List (Option Named)) (number : ℕ) : Type 0 where
+pub record IsRemovable (nodes : List (Option NodeAt)) (number : ℕ) : Type 0 where
   pub below : path_of nodes number ≢ []
   pub leaf : IsLeaf nodes (path_of nodes number)
 
 -- some name leads on from a path
-abbrev pub HasChild : List (Option Named) → List (List ℕ) → Type 0
+abbrev pub HasChild : List (Option NodeAt) → List (List ℕ) → Type 0
 HasChild nodes path = (name : List ℕ) × (is_some (tree_of nodes (path ++ name ∷ [])) ≡ true)

@@ -1,8 +1,8 @@
 //! What a file holds.
 ghost use Rattle.std.specs.Prelude.{◌≡◌, ℕ, ◌+◌, ◌-◌, ◌<◌, ◌≤◌, ◌^◌, [], ◌++◌, length, take, drop, replicate, OnOk, OnErr, IfOk};
-ghost use Rattle.vnode_tree.specs.Contents.{bytes_at, written};
+ghost use Rattle.vnode_tree.specs.Contents.{bytes_at, after_write};
 
-use call_words::Piece;
+use sys_types::Piece;
 use std::alloc::{AllocError, Global};
 use std::marker::Model;
 
@@ -77,7 +77,7 @@ impl Contents {
     /// How many bytes there are after a write.
     #[tactic(auto, using(crate::proofs::Files::length_written_none, crate::proofs::Files::length_written))]
     pub(crate) fn len_after(&self, at: u32, bytes: &[u8]) -> usize
-        ensures { result ≡ length (written self.now at bytes.now) }
+        ensures { result ≡ length (after_write self.now at bytes.now) }
     {
         if bytes.is_empty() {
             return self.bytes.len();
@@ -87,7 +87,7 @@ impl Contents {
 
     /// Writes bytes at a place. Bytes that are missing before it become 0. With `Err` nothing changes.
     pub(crate) fn write(&mut self, at: u32, bytes: &[u8]) -> Result<(), AllocError>
-        ensures ok { OnOk result (self.new ≡ written self.old at bytes.now) }
+        ensures ok { OnOk result (self.new ≡ after_write self.old at bytes.now) }
         ensures err { OnErr result (self.new ≡ self.old) }
     {
         if bytes.is_empty() {

@@ -1,9 +1,8 @@
 //! What the table has of a node.
-use crate::NAME_BYTES;
 use crate::contents::Contents;
 use access_rule::Attrs;
 use acl_core::Acl;
-use call_words::{InPlace, Kind};
+use sys_types::{InPlace, Kind, NAME_BYTES};
 
 /// The name of a node in its directory: at most 255 bytes.
 pub type Name255 = InPlace<NAME_BYTES>;

@@ -14,12 +14,9 @@ mod table;
 mod tree;
 mod walk;
 
-pub use call_words::{FILE_SPACE, Kind, NODES, Node};
+pub use sys_types::{FILE_SPACE, Kind, NAME_BYTES, NODES, Node, PATH_BYTES};
 pub use entry::Name255;
 pub use names::TextText;
 pub use std::alloc::AllocError as NoMemory;
 pub use tree::{Tree, TreeFull, WriteFault};
-pub use walk::{End, LONGEST_PATH, MOST_PARTS, Walk};
-
-/// How many bytes the name of a node has at most.
-pub const NAME_BYTES: usize = 255;
+pub use walk::{End, MOST_PARTS, Walk};

@@ -6,12 +6,12 @@ ghost use Rattle.acl_core.specs.Mode.{minimal_list};
 ghost use Rattle.sys_types.specs.declared.node.Kind.TheVariants as kind;
 ghost use Rattle.sys_types.specs.Images.{images};
 ghost use Rattle.user_db.specs.Boot.{IsBoot};
-ghost use Rattle.access_rule.specs.Tree.{is_dir, is_dir_record, nodes_from};
-ghost use Rattle.access_rule.specs.Standard.{standard_tree};
+ghost use Rattle.tree_model.specs.Tree.{is_dir, is_dir_record, nodes_from};
+ghost use Rattle.tree_model.specs.Standard.{standard_tree};
 ghost use Rattle.sys_types.specs.declared.limits.TheConstants.{NODES, FILE_SPACE};
-ghost use Rattle.vnode_tree.specs.Nodes.{Named, IsLive, named_at, path_of, record_of, tree_of, new_node, is_name, count_of};
+ghost use Rattle.vnode_tree.specs.Nodes.{NodeAt, IsLive, node_at, path_of, record_of, tree_of, new_node, is_name, count_of};
 ghost use Rattle.vnode_tree.specs.Contents.{space_of};
-ghost use Rattle.vnode_tree.specs.Standard.{IsMapOf, Keeps, can_add, mode_755, owned, super_node, root_node, standard_dirs, image_text, image_node, list_nodes, line_node, tty_node, line_name, home_node, tty_line, ttys_text, standard, bin_node, etc_node, home_dir_node, dev_node, with_images, with_lines};
+ghost use Rattle.vnode_tree.specs.Standard.{IsMapOf, Keeps, can_add, mode_755, attrs_of_owner, super_node, root_node, standard_dirs, image_text, image_node, list_nodes, line_node, tty_node, line_name, tty_line, ttys_text, standard, bin_node, etc_node, home_dir_node, dev_node, with_images, with_lines};
 
 use crate::contents::Contents;
 use crate::entry::{Entry, Name255};
@@ -19,18 +19,18 @@ use crate::tree::{Tree, TreeFull};
 use crate::{NODES, NoMemory};
 use access_rule::Attrs;
 use acl_core::Acl;
-use call_words::{Image, InPlace, Kind, Node};
+use sys_types::{Image, InPlace, Kind, LINES, Node};
 use label_core::Element;
 use std::alloc::Global;
-use user_db::{Boot, TTYS, Users};
+use user_db::Boot;
 
 /// The superuser, and the superuser's group.
 const SUPER: u32 = 0;
 
 /// Attributes by an owner, a group, a mode of at most 777 in octal, and an element.
-fn owned(uid: u32, gid: u32, kind: Kind, mode: u16, element: Element) -> Attrs
+fn attrs_of_owner(uid: u32, gid: u32, kind: Kind, mode: u16, element: Element) -> Attrs
     requires { mode < 512 }
-    ensures attrs { result ≡ owned uid gid kind mode element }
+    ensures attrs { result ≡ attrs_of_owner uid gid kind mode element }
 {
     Attrs {
         element,
@@ -61,12 +61,12 @@ fn line_name(number: u8) -> [u8; 4]
 }
 
 /// A line of text for each terminal line that tells whether it is on.
-fn ttys_text(alloc: Global, on: &[bool; TTYS]) -> Result<Contents, NoMemory>
+fn ttys_text(alloc: Global, on: &[bool; LINES]) -> Result<Contents, NoMemory>
     ensures text { IfOk result (λ text. text ≡ ttys_text on.now) }
     ensures most { IfOk result (λ text. length text ≤ 80) }
 {
     let mut text = Contents::empty(alloc);
-    for number in 0..TTYS as u8 {
+    for number in 0..LINES as u8 {
         text = tty_line(text, number, on[usize::from(number)])?;
     }
     Ok(text)
@@ -87,9 +87,9 @@ fn tty_line(text: Contents, number: u8, on: bool) -> Result<Contents, NoMemory>
     ensures most { IfOk result (λ longer. length longer ≤ length text + 10) }
 {
     let digit = [b'0' + number];
-    let begun = text.with(b"tty ")?;
-    let numbered = begun.with(&digit)?;
-    let longer = numbered.with(on_or_off(on))?;
+    let with_word = text.with(b"tty ")?;
+    let with_digit = with_word.with(&digit)?;
+    let longer = with_digit.with(on_or_off(on))?;
     Ok(longer)
 }
 
@@ -107,14 +107,14 @@ impl Tree {
     #[tactic(auto, using(crate::proofs::Roots::push_none))]
     fn of_root(alloc: Global) -> Result<Tree, NoMemory>
         ensures map { IfOk result (λ tree. IsMapOf tree (root_node ∷ [])) }
-        ensures at { IfOk result (λ tree. named_at tree 0 ≡ Some root_node) }
+        ensures at { IfOk result (λ tree. node_at tree 0 ≡ Some root_node) }
     {
         let mut entries = Vec::with_capacity(alloc, NODES)?;
         entries.push_reserved(Some(Entry {
             dir: 0,
             name: InPlace::empty(),
             kind: Kind::Dir,
-            attrs: owned(SUPER, SUPER, Kind::Dir, 0o755, Element::Low),
+            attrs: attrs_of_owner(SUPER, SUPER, Kind::Dir, 0o755, Element::Low),
             default: None,
             contents: Contents::empty(alloc),
         }));
@@ -129,8 +129,8 @@ impl Tree {
     fn add(&mut self, dir: Node, name: &[u8], kind: Kind, attrs: Attrs, contents: Contents) -> Node
         requires room { IsTrue (can_add self.old dir name.now (length contents)) }
         requires kind { attrs.is_dir ≡ is_dir kind }
-        ensures at { named_at self.new result ≡ Some (record { path = path_of self.old dir ++ name.now ∷ []; node = new_node kind attrs None contents }) }
-        ensures grows { (nodes : List Named) → IsMapOf self.old nodes → IsMapOf self.new (nodes ++ record { path = path_of self.old dir ++ name.now ∷ []; node = new_node kind attrs None contents } ∷ []) }
+        ensures at { node_at self.new result ≡ Some (record { path = path_of self.old dir ++ name.now ∷ []; node = new_node kind attrs None contents }) }
+        ensures grows { (nodes : List NodeAt) → IsMapOf self.old nodes → IsMapOf self.new (nodes ++ record { path = path_of self.old dir ++ name.now ∷ []; node = new_node kind attrs None contents } ∷ []) }
         ensures keeps { Keeps self.old self.new }
     {
         match Name255::from_slice(name) {
@@ -154,21 +154,21 @@ impl Tree {
     ) -> Node
         requires room { IsTrue (can_add self.old dir name.now (length contents)) }
         requires mode { mode < 512 }
-        ensures at { (parent : Named) → named_at self.old dir ≡ Some parent → named_at self.new result ≡ Some (super_node (parent.path ++ name.now ∷ []) kind mode element contents) }
-        ensures grows { (parent : Named) (nodes : List Named) → named_at self.old dir ≡ Some parent → IsMapOf self.old nodes → IsMapOf self.new (nodes ++ super_node (parent.path ++ name.now ∷ []) kind mode element contents ∷ []) }
+        ensures at { (parent : NodeAt) → node_at self.old dir ≡ Some parent → node_at self.new result ≡ Some (super_node (parent.path ++ name.now ∷ []) kind mode element contents) }
+        ensures grows { (parent : NodeAt) (nodes : List NodeAt) → node_at self.old dir ≡ Some parent → IsMapOf self.old nodes → IsMapOf self.new (nodes ++ super_node (parent.path ++ name.now ∷ []) kind mode element contents ∷ []) }
         ensures keeps { Keeps self.old self.new }
     {
-        let attrs = owned(SUPER, SUPER, kind, mode, element);
+        let attrs = attrs_of_owner(SUPER, SUPER, kind, mode, element);
         self.add(dir, name, kind, attrs, contents)
     }
 
     /// Adds a directory to the root.
     fn add_dir(&mut self, alloc: Global, name: &[u8], mode: u16, element: Element) -> Node
-        requires root { named_at self.old 0 ≡ Some root_node }
+        requires root { node_at self.old 0 ≡ Some root_node }
         requires room { IsTrue (can_add self.old 0 name.now 0) }
         requires mode { mode < 512 }
-        ensures at { named_at self.new result ≡ Some (super_node (name.now ∷ []) kind.Dir mode element []) }
-        ensures grows { (nodes : List Named) → IsMapOf self.old nodes → IsMapOf self.new (nodes ++ super_node (name.now ∷ []) kind.Dir mode element [] ∷ []) }
+        ensures at { node_at self.new result ≡ Some (super_node (name.now ∷ []) kind.Dir mode element []) }
+        ensures grows { (nodes : List NodeAt) → IsMapOf self.old nodes → IsMapOf self.new (nodes ++ super_node (name.now ∷ []) kind.Dir mode element [] ∷ []) }
         ensures keeps { Keeps self.old self.new }
     {
         self.add_super(
@@ -183,13 +183,13 @@ impl Tree {
 
     /// Adds the directories to a root alone.
     fn add_dirs(&mut self, alloc: Global) -> Dirs
-        requires root { named_at self.old 0 ≡ Some root_node }
+        requires root { node_at self.old 0 ≡ Some root_node }
         requires map { IsMapOf self.old (root_node ∷ []) }
         ensures map { IsMapOf self.new standard_dirs }
-        ensures bin { named_at self.new result.bin ≡ Some bin_node }
-        ensures etc { named_at self.new result.etc ≡ Some etc_node }
-        ensures home { named_at self.new result.home ≡ Some home_dir_node }
-        ensures dev { named_at self.new result.dev ≡ Some dev_node }
+        ensures bin { node_at self.new result.bin ≡ Some bin_node }
+        ensures etc { node_at self.new result.etc ≡ Some etc_node }
+        ensures home { node_at self.new result.home ≡ Some home_dir_node }
+        ensures dev { node_at self.new result.dev ≡ Some dev_node }
     {
         let bin = self.add_dir(alloc, b"bin", 0o755, Element::Low);
         let etc = self.add_dir(alloc, b"etc", 0o755, Element::Low);
@@ -206,7 +206,7 @@ impl Tree {
 
     /// Adds the file of each program to `/bin`.
     fn add_images(&mut self, alloc: Global, bin: Node) -> Result<(), NoMemory>
-        requires bin { named_at self.old bin ≡ Some bin_node }
+        requires bin { node_at self.old bin ≡ Some bin_node }
         requires map { IsMapOf self.old standard_dirs }
         ensures map { OnOk result (IsMapOf self.new with_images) }
         ensures keeps { OnOk result (Keeps self.old self.new) }
@@ -222,12 +222,12 @@ impl Tree {
 
     /// Adds the terminal lines to `/dev`, and the caller's own line.
     fn add_lines(&mut self, alloc: Global, dev: Node)
-        requires dev { named_at self.old dev ≡ Some dev_node }
+        requires dev { node_at self.old dev ≡ Some dev_node }
         requires map { IsMapOf self.old with_images }
         ensures map { IsMapOf self.new with_lines }
         ensures keeps { Keeps self.old self.new }
     {
-        for number in 0..TTYS as u8 {
+        for number in 0..LINES as u8 {
             let contents = Contents::empty(alloc);
             let kind = Kind::Line(number);
             let name = line_name(number);
@@ -238,8 +238,8 @@ impl Tree {
     }
 
     /// Adds the files of users and of lines to `/etc`.
-    fn add_lists(&mut self, alloc: Global, etc: Node, on: &[bool; TTYS]) -> Result<(), NoMemory>
-        requires etc { named_at self.old etc ≡ Some etc_node }
+    fn add_lists(&mut self, alloc: Global, etc: Node, on: &[bool; LINES]) -> Result<(), NoMemory>
+        requires etc { node_at self.old etc ≡ Some etc_node }
         requires map { IsMapOf self.old with_lines }
         ensures map { OnOk result (IsMapOf self.new (with_lines ++ list_nodes on.now)) }
         ensures keeps { OnOk result (Keeps self.old self.new) }
@@ -251,26 +251,8 @@ impl Tree {
         Ok(())
     }
 
-    /// Adds the home of each user to `/home`.
-    fn add_homes(&mut self, alloc: Global, home: Node, users: &Users)
-        requires none { users.now ≡ [] }
-        ensures { self.new ≡ self.old }
-    {
-        for user in users.as_slice() {
-            let attrs = owned(
-                user.cred.uid,
-                user.cred.gid,
-                Kind::Dir,
-                0o700,
-                user.label.active().copy(),
-            );
-            let contents = Contents::empty(alloc);
-            self.add(home, user.name.as_slice(), Kind::Dir, attrs, contents);
-        }
-    }
-
     /// The tree of a boot: its directories, the file of each program in `/bin`, the files of users and of lines in
-    /// `/etc`, the terminal lines in `/dev`, and the home of each user in `/home`.
+    /// `/etc`, and the terminal lines in `/dev`.
     ///
     /// The boot is one that some boot text gives. The table of nodes is made with room for all of them.
     pub fn new(alloc: Global, boot: &Boot) -> Result<Tree, NoMemory>
@@ -283,7 +265,6 @@ impl Tree {
         tree.add_images(alloc, dirs.bin)?;
         tree.add_lines(alloc, dirs.dev);
         tree.add_lists(alloc, dirs.etc, &boot.on)?;
-        tree.add_homes(alloc, dirs.home, &boot.users);
         Ok(tree)
     }
 }

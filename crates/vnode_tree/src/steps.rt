@@ -1,7 +1,7 @@
 //! The parts of a path.
 ghost use Rattle.std.specs.Prelude.{◌≡◌, ℕ, ◌+◌, ◌<◌, ◌≤◌, ◌*◌, List, [], ◌∷◌, length, position, option_copied, MatchOption, IfSome, IsTrue};
 ghost use Rattle.std.specs.Bool.{OnFalse};
-ghost use Rattle.access_rule.specs.Tree.{is_slash, is_skipped, steps};
+ghost use Rattle.tree_model.specs.Tree.{is_slash, is_skipped, steps};
 ghost use Rattle.vnode_tree.specs.Walks.{IsCut, steps_after, is_step};
 
 use std::marker::Model;
@@ -23,7 +23,7 @@ impl<'a> Model for Steps<'a> {
 
 /// Whether a part does nothing.
 fn is_skipped(part: &[u8]) -> bool
-    ensures skipped { result ≡ is_skipped part.now }
+    ensures is_skipped { result ≡ is_skipped part.now }
     ensures some { OnFalse result (0 < length part.now) }
 {
     part.is_empty() || part == b".".as_slice()

@@ -1,14 +1,14 @@
 //! Places of the table of nodes.
 ghost use Rattle.std.specs.Prelude.{◌≡◌, ℕ, List, IsSome, Some, None, is_none, position, sum_by, slice_index_or, slice_set, ◌+◌, ◌<◌, ◌≤◌, ◌^◌, [], length, OnOk, OnErr};
 ghost use Rattle.vnode_tree.specs.Links.{entry_at, is_child, is_in, with_entry, entry_with_attrs, entry_with_default, entry_with_contents};
-ghost use Rattle.vnode_tree.specs.Contents.{written};
+ghost use Rattle.vnode_tree.specs.Contents.{after_write};
 ghost use Rattle.sys_types.specs.declared.limits.TheConstants.{FILE_SPACE};
 ghost use Rattle.vnode_tree.specs.Kept.{size_in};
 
 use crate::entry::Entry;
 use access_rule::Attrs;
 use acl_core::Acl;
-use call_words::Node;
+use sys_types::Node;
 use std::alloc::AllocError;
 
 /// The entry of a node that is there.
@@ -129,7 +129,7 @@ pub(crate) fn write(
     at: u32,
     bytes: &[u8],
 ) -> Result<(), AllocError>
-    ensures ok { OnOk result (entries.new ≡ with_entry (entry_with_contents (λ old. written old at bytes.now)) entries.old node) }
+    ensures ok { OnOk result (entries.new ≡ with_entry (entry_with_contents (λ old. after_write old at bytes.now)) entries.old node) }
     ensures err { OnErr result (entries.new ≡ entries.old) }
 {
     let place = usize::from(node.number());

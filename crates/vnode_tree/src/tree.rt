@@ -1,13 +1,13 @@
 //! The tree: its nodes, made, changed and taken away.
 ghost use Rattle.std.specs.Prelude.{◌≡◌, ◌≢◌, ◌↔◌, ℕ, ◌<◌, ◌≤◌, List, [], ◌∷◌, ◌++◌, Some, None, Ok, Err, option_map, option_copied, MatchOption, length, not, IsTrue, IsErr, IfOk, OnOk, OnErr, ◌+◌};
 ghost use Rattle.std.specs.Bool.{OnTrue, OnFalse};
-ghost use Rattle.access_rule.specs.Tree.{NodeRecord, is_dir, is_dir_record, parent_of, at_path, placed, nodes_from, bytes_in};
-ghost use Rattle.access_rule.specs.Listing.{is_empty_dir};
-ghost use Rattle.vnode_tree.specs.Contents.{bytes_at, with_written, space_of};
+ghost use Rattle.tree_model.specs.Tree.{NodeRecord, is_dir, is_dir_record, parent_of, at_path, with_node_at, nodes_from, bytes_in};
+ghost use Rattle.tree_model.specs.Listing.{is_empty_dir};
+ghost use Rattle.vnode_tree.specs.Contents.{bytes_at, with_write, space_of};
 ghost use Rattle.vnode_tree.specs.Standard.{Keeps};
 ghost use Rattle.sys_types.specs.declared.limits.TheConstants.{NODES, FILE_SPACE};
 ghost use Rattle.vnode_tree.specs.declared.tree.WriteFault.TheVariants.{Space};
-ghost use Rattle.vnode_tree.specs.Nodes.{IsLive, IsFile, is_file_record, IsAt, IsLeaf, IsRemovable, HasChild, named_at, path_of, record_of, tree_of, with_node, with_record, with_attrs, with_default, with_contents, new_node, is_name, count_of, ChangesAt};
+ghost use Rattle.vnode_tree.specs.Nodes.{IsLive, IsFile, is_file_record, IsAt, IsLeaf, IsRemovable, HasChild, node_at, path_of, record_of, tree_of, with_node, with_record, with_attrs, with_default, with_contents, new_node, is_name, count_of, ChangesAt};
 
 use crate::FILE_SPACE;
 use crate::contents::Contents;
@@ -15,7 +15,7 @@ use crate::entry::{Entry, Name255};
 use crate::table::{self, child_place, entry_of, first_child, free_place};
 use access_rule::Attrs;
 use acl_core::Acl;
-use call_words::{Kind, Node, Piece};
+use sys_types::{Kind, Node, Piece};
 use std::alloc::AllocError;
 use std::marker::Model;
 
@@ -40,9 +40,9 @@ pub struct Tree {
 
 impl Model for Tree {
     ghost use Rattle.std.specs.Prelude.{List, Option};
-    ghost use Rattle.vnode_tree.specs.Nodes.{Named};
+    ghost use Rattle.vnode_tree.specs.Nodes.{NodeAt};
 
-    ghost Value = { List (Option Named) };
+    ghost Value = { List (Option NodeAt) };
 
     ghost use Rattle.vnode_tree.specs.Links.{nodes_of};
     ghost use Rattle.vnode_tree.specs.Kept.{IsKept};
@@ -192,15 +192,15 @@ impl Tree {
     ) -> Result<Node, TreeFull>
         requires dir { IsTrue (is_dir_record (record_of self.old dir)) }
         requires absent { tree_of self.old (path_of self.old dir ++ name.now ∷ []) ≡ None }
-        requires named { IsTrue (is_name name.now) }
+        requires name { IsTrue (is_name name.now) }
         requires kind { attrs.is_dir ≡ is_dir kind }
         ensures full { IsErr result ↔ (count_of self.old ≡ NODES) }
         ensures full_map { IsErr result ↔ (length (nodes_from self.old) ≡ NODES) }
-        ensures free { IfOk result (λ node. named_at self.old node ≡ None) }
-        ensures made { IfOk result (λ node. self.new ≡ with_node self.old node (Some (record { path = path_of self.old dir ++ name.now ∷ []; node = new_node kind attrs default [] }))) }
+        ensures free { IfOk result (λ node. node_at self.old node ≡ None) }
+        ensures new_node { IfOk result (λ node. self.new ≡ with_node self.old node (Some (record { path = path_of self.old dir ++ name.now ∷ []; node = new_node kind attrs default [] }))) }
         ensures live { IfOk result (λ node. IsLive self.new node) }
         ensures changes { OnOk result (ChangesAt (path_of self.old dir ++ name.now ∷ []) (Some (new_node kind attrs default [])) self.old self.new) }
-        ensures map { OnOk result (nodes_from self.new ≡ placed (nodes_from self.old) (path_of self.old dir ++ name.now ∷ []) (Some (new_node kind attrs default []))) }
+        ensures map { OnOk result (nodes_from self.new ≡ with_node_at (nodes_from self.old) (path_of self.old dir ++ name.now ∷ []) (Some (new_node kind attrs default []))) }
         ensures err { OnErr result (self.new ≡ self.old) }
     {
         let contents = Contents::empty(*self.entries.allocator());
@@ -219,16 +219,16 @@ impl Tree {
     ) -> Result<Node, TreeFull>
         requires dir { IsTrue (is_dir_record (record_of self.old dir)) }
         requires absent { tree_of self.old (path_of self.old dir ++ name.now ∷ []) ≡ None }
-        requires named { IsTrue (is_name name.now) }
+        requires name { IsTrue (is_name name.now) }
         requires kind { attrs.is_dir ≡ is_dir kind }
         requires room { space_of self.old + length contents ≤ FILE_SPACE }
         ensures full { IsErr result ↔ (count_of self.old ≡ NODES) }
         ensures full_map { IsErr result ↔ (length (nodes_from self.old) ≡ NODES) }
-        ensures free { IfOk result (λ node. named_at self.old node ≡ None) }
-        ensures made { IfOk result (λ node. self.new ≡ with_node self.old node (Some (record { path = path_of self.old dir ++ name.now ∷ []; node = new_node kind attrs default contents }))) }
+        ensures free { IfOk result (λ node. node_at self.old node ≡ None) }
+        ensures new_node { IfOk result (λ node. self.new ≡ with_node self.old node (Some (record { path = path_of self.old dir ++ name.now ∷ []; node = new_node kind attrs default contents }))) }
         ensures live { IfOk result (λ node. IsLive self.new node) }
         ensures changes { OnOk result (ChangesAt (path_of self.old dir ++ name.now ∷ []) (Some (new_node kind attrs default contents)) self.old self.new) }
-        ensures map { OnOk result (nodes_from self.new ≡ placed (nodes_from self.old) (path_of self.old dir ++ name.now ∷ []) (Some (new_node kind attrs default contents))) }
+        ensures map { OnOk result (nodes_from self.new ≡ with_node_at (nodes_from self.old) (path_of self.old dir ++ name.now ∷ []) (Some (new_node kind attrs default contents))) }
         ensures count { OnOk result (count_of self.new ≡ count_of self.old + 1) }
         ensures space { OnOk result (space_of self.new ≡ space_of self.old + length contents) }
         ensures keeps { OnOk result (Keeps self.old self.new) }
@@ -252,9 +252,9 @@ impl Tree {
     pub fn remove(&mut self, node: Node)
         requires live { IsLive self.old node }
         requires removable { IsTrue (is_dir_record (record_of self.old node)) → IsRemovable self.old node }
-        ensures gone { self.new ≡ with_node self.old node None }
+        ensures without_node { self.new ≡ with_node self.old node None }
         ensures changes { ChangesAt (path_of self.old node) None self.old self.new }
-        ensures map { nodes_from self.new ≡ placed (nodes_from self.old) (path_of self.old node) None }
+        ensures map { nodes_from self.new ≡ with_node_at (nodes_from self.old) (path_of self.old node) None }
     {
         table::take_away(self.entries.as_mut_slice(), node);
     }
@@ -266,7 +266,7 @@ impl Tree {
         requires kind { attrs.is_dir ≡ is_dir_record (record_of self.old node) }
         ensures set { self.new ≡ with_record (with_attrs attrs) self.old node }
         ensures changes { ChangesAt (path_of self.old node) (option_map (with_attrs attrs) (record_of self.old node)) self.old self.new }
-        ensures map { nodes_from self.new ≡ placed (nodes_from self.old) (path_of self.old node) (option_map (with_attrs attrs) (record_of self.old node)) }
+        ensures map { nodes_from self.new ≡ with_node_at (nodes_from self.old) (path_of self.old node) (option_map (with_attrs attrs) (record_of self.old node)) }
     {
         table::set_attrs(self.entries.as_mut_slice(), node, attrs);
     }
@@ -276,7 +276,7 @@ impl Tree {
         requires live { IsLive self.old node }
         ensures set { self.new ≡ with_record (with_default list) self.old node }
         ensures changes { ChangesAt (path_of self.old node) (option_map (with_default list) (record_of self.old node)) self.old self.new }
-        ensures map { nodes_from self.new ≡ placed (nodes_from self.old) (path_of self.old node) (option_map (with_default list) (record_of self.old node)) }
+        ensures map { nodes_from self.new ≡ with_node_at (nodes_from self.old) (path_of self.old node) (option_map (with_default list) (record_of self.old node)) }
     {
         table::set_default(self.entries.as_mut_slice(), node, list);
     }
@@ -299,11 +299,11 @@ impl Tree {
     /// `Space` comes exactly where the contents of all files would pass 4,194,304 bytes. With `Err` nothing changes.
     pub fn write(&mut self, node: Node, at: u32, bytes: &[u8]) -> Result<(), WriteFault>
         requires { IsFile self.old node }
-        ensures space { (result ≡ Err Space) ↔ (FILE_SPACE < space_of (with_record (with_written at bytes.now) self.old node)) }
-        ensures space_map { (result ≡ Err Space) ↔ (FILE_SPACE < bytes_in (placed (nodes_from self.old) (path_of self.old node) (option_map (with_written at bytes.now) (record_of self.old node)))) }
-        ensures written { OnOk result (self.new ≡ with_record (with_written at bytes.now) self.old node) }
-        ensures changes { OnOk result (ChangesAt (path_of self.old node) (option_map (with_written at bytes.now) (record_of self.old node)) self.old self.new) }
-        ensures map { OnOk result (nodes_from self.new ≡ placed (nodes_from self.old) (path_of self.old node) (option_map (with_written at bytes.now) (record_of self.old node))) }
+        ensures space { (result ≡ Err Space) ↔ (FILE_SPACE < space_of (with_record (with_write at bytes.now) self.old node)) }
+        ensures space_map { (result ≡ Err Space) ↔ (FILE_SPACE < bytes_in (with_node_at (nodes_from self.old) (path_of self.old node) (option_map (with_write at bytes.now) (record_of self.old node)))) }
+        ensures after_write { OnOk result (self.new ≡ with_record (with_write at bytes.now) self.old node) }
+        ensures changes { OnOk result (ChangesAt (path_of self.old node) (option_map (with_write at bytes.now) (record_of self.old node)) self.old self.new) }
+        ensures map { OnOk result (nodes_from self.new ≡ with_node_at (nodes_from self.old) (path_of self.old node) (option_map (with_write at bytes.now) (record_of self.old node))) }
         ensures err { OnErr result (self.new ≡ self.old) }
     {
         let contents = &entry_of(self.entries.as_slice(), node).contents;
@@ -322,7 +322,7 @@ impl Tree {
         requires { IsFile self.old node }
         ensures cut { self.new ≡ with_record (with_contents []) self.old node }
         ensures changes { ChangesAt (path_of self.old node) (option_map (with_contents []) (record_of self.old node)) self.old self.new }
-        ensures map { nodes_from self.new ≡ placed (nodes_from self.old) (path_of self.old node) (option_map (with_contents []) (record_of self.old node)) }
+        ensures map { nodes_from self.new ≡ with_node_at (nodes_from self.old) (path_of self.old node) (option_map (with_contents []) (record_of self.old node)) }
     {
         table::clear(self.entries.as_mut_slice(), node);
     }

@@ -1,21 +1,17 @@
 //! The walk of a path.
 ghost use Rattle.std.specs.Prelude.{◌≡◌, ◌≤◌, ◌+◌, ℕ, List, map, ◌++◌, length, All, Option};
-ghost use Rattle.access_rule.specs.Tree.{Walked, walk, walk_from, is_parent, absent_end, begin_at};
-ghost use Rattle.vnode_tree.specs.Nodes.{Named, IsLive, path_of, tree_of};
-ghost use Rattle.vnode_tree.specs.Walks.{seen, seen_end, IsLiveEnd, IsFree, Passes};
+ghost use Rattle.tree_model.specs.Tree.{PathWalk, walk, walk_from, is_parent, absent_end, begin_at};
+ghost use Rattle.vnode_tree.specs.Nodes.{NodeAt, IsLive, path_of, tree_of};
+ghost use Rattle.vnode_tree.specs.Walks.{paths_of_walk, paths_of_end, IsLiveEnd, IsFree, Passes};
 
-use crate::NAME_BYTES;
 use crate::entry::Name255;
 use crate::steps::Steps;
 use crate::tree::Tree;
 use arrayvec::ArrayVec;
-use call_words::{Node, PathText};
+use sys_types::{NAME_BYTES, Node, PATH_BYTES, PathText};
 
 /// How many parts a path of 1,023 bytes has at most.
 pub const MOST_PARTS: usize = 512;
-
-/// How many bytes a path has at most that is walked.
-pub const LONGEST_PATH: usize = 1023;
 
 /// Where a walk ends.
 #[derive(Drop)]
@@ -51,8 +47,8 @@ fn is_parent(part: &[u8]) -> bool
 /// The end of a walk at a name that a directory does not have: only the last part may be absent.
 fn absent_end(dir: Node, part: &[u8], steps: &mut Steps) -> End
     requires { length part.now ≤ NAME_BYTES }
-    ensures end { (nodes : List (Option Named)) → seen_end nodes result ≡ absent_end (path_of nodes dir) part.now steps.old }
-    ensures live { (nodes : List (Option Named)) → IsFree nodes dir part.now → IsLiveEnd nodes result }
+    ensures end { (nodes : List (Option NodeAt)) → paths_of_end nodes result ≡ absent_end (path_of nodes dir) part.now steps.old }
+    ensures live { (nodes : List (Option NodeAt)) → IsFree nodes dir part.now → IsLiveEnd nodes result }
 {
     if steps.next().is_some() {
         return End::Missing;
@@ -74,7 +70,7 @@ impl Tree {
         requires live { IsLive self.now from }
         requires room { length passed.old.items + length steps.old ≤ MOST_PARTS }
         requires so_far { All (IsLive self.now) passed.old.items }
-        ensures passes { Passes (walk_from (tree_of self.now) (path_of self.now from) steps.old) (map (path_of self.now) passed.old.items) (map (path_of self.now) passed.new.items) (seen_end self.now result) }
+        ensures passes { Passes (walk_from (tree_of self.now) (path_of self.now from) steps.old) (map (path_of self.now) passed.old.items) (map (path_of self.now) passed.new.items) (paths_of_end self.now result) }
         ensures lives { All (IsLive self.now) passed.new.items }
         ensures live_end { IsLiveEnd self.now result }
     {
@@ -107,13 +103,13 @@ impl Tree {
     /// check each of them in order. The node is live.
     pub fn walk(&self, cwd: Node, path: &PathText) -> Walk
         requires { IsLive self.now cwd }
-        ensures walked { seen self.now result ≡ walk (tree_of self.now) (path_of self.now cwd) path.now }
+        ensures by_walk { paths_of_walk self.now result ≡ walk (tree_of self.now) (path_of self.now cwd) path.now }
         ensures lives { All (IsLive self.now) result.passed.items }
         ensures live_end { IsLiveEnd self.now result.end }
     {
         let mut passed = ArrayVec::new();
         let bytes = path.as_slice();
-        if bytes.len() > LONGEST_PATH {
+        if bytes.len() > PATH_BYTES {
             return Walk {
                 passed,
                 end: End::PathLong,

@@ -1,7 +1,7 @@
 use Rattle.std.proofs.Common.{◌≡◌, ◌≢◌, true, false, None, refl, sym, ap, ◌∙◌}
 use Rattle.std.proofs.lemmas.Bool.{eqb-true, eq-eqb}
 use Rattle.sys_types.specs.declared.rules.Rule.TheVariants.{LabelWrite, NotEmpty, InUse}
-use Rattle.access_rule.specs.Tree.{is_dir_record, parent_of}
+use Rattle.tree_model.specs.Tree.{is_dir_record, parent_of}
 use Rattle.machine_model.specs.PathCalls.{rmdir_at}
 use Rattle.machine_model.specs.Places.{access_line, node_dominates}
 use Rattle.machine_model.specs.Rows.{denied_by}
@@ -56,7 +56,7 @@ returns-then-eq-clause-does c = λ files line recheck are.
 pub returns-clause-open_files : goal.returns-clause-open_files
 returns-clause-open_files c = λ files are.
     let apart = no_file_of_dir c.args.tree.now files c.in-Ok.node (sym c.is_dir.ensures.itself ∙ c.if-not-is_dir.false) are in
-    rw c.remove.ensures.gone (open_kept c.args.tree.now _ files (other_files c.args.tree.now c.in-Ok.node None files apart) are)
+    rw c.remove.ensures.without_node (open_kept c.args.tree.now _ files (other_files c.args.tree.now c.in-Ok.node None files apart) are)
 
 pub returns-clause-does : goal.returns-clause-does
 returns-clause-does c = λ files line recheck are.
@@ -71,8 +71,8 @@ returns-clause-does c = λ files line recheck are.
     let label : node_dominates v (what_is nodes node) ≡ true = sym (c.label_writes.ensures files line recheck) ∙ c.if-not-label_writes.false in
     let away : caller.directory ≢ node = λ same. absurd (let never : true ≡ false = sym (eq-eqb node caller.directory (sym same)) ∙ sym c.eq.ensures ∙ c.if-eq.false in cc) in
     let apart = no_file_of_dir nodes files node (sym c.is_dir.ensures.itself ∙ c.if-not-is_dir.false) are in
-    let kept : AreKeptAt nodes new files = rw c.remove.ensures.gone (other_files nodes node None files apart) in
-    let home : IsKeptAt nodes new caller.directory = rw c.remove.ensures.gone (other_kept nodes node caller.directory None away) in
+    let kept : AreKeptAt nodes new files = rw c.remove.ensures.without_node (other_files nodes node None files apart) in
+    let home : IsKeptAt nodes new caller.directory = rw c.remove.ensures.without_node (other_kept nodes node caller.directory None away) in
     rw c.number.ensures (at_node v _ _ c.args.path.now (rmdir_at v) place (ap denied_by c.in-Ok.ensures.allowed) c.in-Ok.ensures.ends
-    (goes_on v _ (rmdir_at v place) (first_of_last v place dir c.if-is_root.ensures.below free label ∙ none_is_first v place (sym c.has_children.ensures.map ∙ c.if-has_children.false) (alone nodes new node caller.directory c.remove.ensures.gone c.remove.ensures.changes c.requires.live away))
+    (goes_on v _ (rmdir_at v place) (first_of_last v place dir c.if-is_root.ensures.below free label ∙ none_is_first v place (sym c.has_children.ensures.map ∙ c.if-has_children.false) (alone nodes new node caller.directory c.remove.ensures.without_node c.remove.ensures.changes c.requires.live away))
     (view_changes nodes new files caller line recheck place None c.remove.ensures.map kept home)))

@@ -4,7 +4,7 @@ use Rattle.acl_core.specs.declared.entry.Entry.{Entry}
 use Rattle.call_words.specs.declared.attr.WhichList.{WhichList}
 use Rattle.call_words.specs.declared.attr.WhichList.TheVariants.{Access, Default}
 use Rattle.sys_types.specs.declared.rules.Rule.TheVariants.{LabelWrite, Owner, NotDir, AclBad}
-use Rattle.access_rule.specs.Tree.{NodeRecord}
+use Rattle.tree_model.specs.Tree.{NodeRecord}
 use Rattle.acl_core.specs.Acl.{acl_of}
 use Rattle.machine_model.specs.NodeCalls.{setacl_at, lacks_list, is_bad_list, with_entries}
 use Rattle.machine_model.specs.Places.{node_dominates, is_not_owner}

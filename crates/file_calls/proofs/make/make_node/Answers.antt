@@ -1,8 +1,8 @@
 use Rattle.std.proofs.Common.{rules}
 use Rattle.file_calls.proofs.make.make_node.Goals as goal
 
-pub returns-in-Ok-clause-made : goal.returns-in-Ok-clause-made
-returns-in-Ok-clause-made c = search rules
+pub returns-in-Ok-clause-new_node : goal.returns-in-Ok-clause-new_node
+returns-in-Ok-clause-new_node c = search rules
 
 pub returns-in-Ok-clause-map : goal.returns-in-Ok-clause-map
 returns-in-Ok-clause-map c = search rules

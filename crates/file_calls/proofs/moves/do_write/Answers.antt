@@ -1,7 +1,7 @@
 use Rattle.std.proofs.Common.{◌≡◌, ◌≤◌, ℕ, List, None, option_map, Err, refl, ap, ◌∙◌, arith}
 use Rattle.sys_types.specs.declared.limits.TheConstants.{FILE_SPACE}
-use Rattle.access_rule.specs.Contents.{with_written}
-use Rattle.access_rule.specs.Tree.{nodes_from, placed}
+use Rattle.tree_model.specs.Contents.{with_write}
+use Rattle.tree_model.specs.Tree.{nodes_from, with_node_at}
 use Rattle.vnode_tree.specs.declared.tree.WriteFault.{WriteFault}
 use Rattle.vnode_tree.specs.Nodes.{IsFile, path_of, record_of, with_record}
 use Rattle.file_calls.proofs.Files.{moved_open}
@@ -33,15 +33,15 @@ overflow_add-place c =
 pub returns-in-Ok-write-clause-open_files : goal.returns-in-Ok-write-clause-open_files
 returns-in-Ok-write-clause-open_files c =
     let old = c.args.tree.now in
-    rw (c.set_offset.ensures, c.in-Ok-write.ensures.written) (moved_open _ c.args.fds.now c.args.fd _ (open_kept old _ c.args.fds.now (changed_files _ old c.in-Ok.file.node c.args.fds.now (λ r. refl)) c.requires.open_files))
+    rw (c.set_offset.ensures, c.in-Ok-write.ensures.after_write) (moved_open _ c.args.fds.now c.args.fd _ (open_kept old _ c.args.fds.now (changed_files _ old c.in-Ok.file.node c.args.fds.now (λ r. refl)) c.requires.open_files))
 
 pub returns-in-Ok-write-clause-does : goal.returns-in-Ok-write-clause-does
 returns-in-Ok-write-clause-does c = λ line.
     let old = c.args.tree.now in
     let node = c.in-Ok.file.node in
     let place = c.write_place-place.result in
-    let put = c.in-Ok-write.ensures.written ∙ ap (λ (bs : List ℕ). with_record (with_written place bs) old node) c.as_slice.ensures.bytes in
-    let map = c.in-Ok-write.ensures.map ∙ ap (λ (bs : List ℕ). placed (nodes_from old) (path_of old node) (option_map (with_written place bs) (record_of old node))) c.as_slice.ensures.bytes in
+    let put = c.in-Ok-write.ensures.after_write ∙ ap (λ (bs : List ℕ). with_record (with_write place bs) old node) c.as_slice.ensures.bytes in
+    let map = c.in-Ok-write.ensures.map ∙ ap (λ (bs : List ℕ). with_node_at (nodes_from old) (path_of old node) (option_map (with_write place bs) (record_of old node))) c.as_slice.ensures.bytes in
     rw (c.number.ensures, c.set_offset.ensures, c.len-count.ensures.len) (writes old c.args.fds.now c.args.caller.now line c.args.recheck c.args.fd c.args.bytes.now c.in-Ok.file place
     (of_none (goal.at.returns-in-Ok-write-clause-does c).In-Ok) c.write_place-place.ensures.there (c.write_place-place.ensures.place c.args.fds.now c.args.caller.now line c.args.recheck) (c.in-Ok.ensures.decided line)
     c.write.new.self put map (fits (goal.at.returns-in-Ok-write-clause-does c).In-Ok-write))

@@ -1,5 +1,5 @@
 use Rattle.std.proofs.Common.{sym, ap, ◌∙◌}
-use Rattle.access_rule.specs.Tree.{found, absent}
+use Rattle.tree_model.specs.Tree.{found, absent}
 use Rattle.machine_model.specs.Rows.{denied_by}
 use Rattle.vnode_tree.specs.Nodes.{path_of}
 use Rattle.file_calls.specs.Places.{seen_place}

@@ -1,6 +1,6 @@
 use Rattle.std.proofs.Common.{◌≡◌, List, [], ◌∷◌, ◌++◌, Option, None, ap, ◌∙◌, subst}
 use Rattle.sys_types.specs.declared.node.Kind.TheVariants.{File}
-use Rattle.vnode_tree.specs.Nodes.{Named, IsLive, path_of, with_node}
+use Rattle.vnode_tree.specs.Nodes.{NodeAt, IsLive, path_of, with_node}
 use Rattle.file_calls.proofs.Files.{file_open}
 use Rattle.file_calls.proofs.Kept.{AreKeptAt, IsKeptAt, made_kept, made_files, open_kept}
 use Rattle.file_calls.proofs.Opening.{MadeAt, made_at, made_and_gone, opens_denied, opens_none, opens_made}
@@ -13,8 +13,8 @@ returns-in-Err-clause-does c = λ line recheck.
 -- the nodes are as they were
 as_before : (c : goal.After-denied-in_default) → c.remove.new.self ≡ c.args.tree.now
 as_before c =
-    c.remove.ensures.gone
-    ∙ ap (λ (nodes : List (Option Named)). with_node nodes c.in-Ok.node None) c.in-Ok.ensures.made
+    c.remove.ensures.without_node
+    ∙ ap (λ (nodes : List (Option NodeAt)). with_node nodes c.in-Ok.node None) c.in-Ok.ensures.new_node
     ∙ made_and_gone c.args.tree.now c.in-Ok.node _ c.in-Ok.ensures.unused
 
 pub returns-in_default-clause-home : goal.returns-in_default-clause-home
@@ -29,15 +29,15 @@ returns-in_default-clause-does c = λ line recheck.
 
 -- the open files are kept, and who asks is
 files_kept : (c : goal.After-number) → AreKeptAt c.args.tree.now c.make_node.new.tree c.args.fds.now
-files_kept c = rw c.in-Ok.ensures.made (made_files c.args.tree.now c.in-Ok.node _ c.args.fds.now c.in-Ok.ensures.unused c.requires.open_files)
+files_kept c = rw c.in-Ok.ensures.new_node (made_files c.args.tree.now c.in-Ok.node _ c.args.fds.now c.in-Ok.ensures.unused c.requires.open_files)
 
 home_kept : (c : goal.After-number) → IsKeptAt c.args.tree.now c.make_node.new.tree c.args.caller.now.directory
-home_kept c = rw c.in-Ok.ensures.made (made_kept c.args.tree.now c.in-Ok.node c.args.caller.now.directory _ c.in-Ok.ensures.unused c.requires.home.live)
+home_kept c = rw c.in-Ok.ensures.new_node (made_kept c.args.tree.now c.in-Ok.node c.args.caller.now.directory _ c.in-Ok.ensures.unused c.requires.home.live)
 
 -- the new node
 new_node : (c : goal.After-number) → MadeAt c.make_node.new.tree c.in-Ok.node (path_of c.args.tree.now c.args.dir ++ c.args.name.now ∷ []) File
 new_node c =
-    rw c.in-Ok.ensures.made (made_at c.args.tree.now c.args.caller.now c.args.dir c.in-Ok.node (path_of c.args.tree.now c.args.dir ++ c.args.name.now ∷ []) File c.args.mode (subst (λ (nodes : List (Option Named)). IsLive nodes c.in-Ok.node) c.in-Ok.ensures.made c.in-Ok.ensures.live))
+    rw c.in-Ok.ensures.new_node (made_at c.args.tree.now c.args.caller.now c.args.dir c.in-Ok.node (path_of c.args.tree.now c.args.dir ++ c.args.name.now ∷ []) File c.args.mode (subst (λ (nodes : List (Option NodeAt)). IsLive nodes c.in-Ok.node) c.in-Ok.ensures.new_node c.in-Ok.ensures.live))
 
 pub returns-clause-open_files : goal.returns-clause-open_files
 returns-clause-open_files c =

@@ -1,5 +1,5 @@
 use Rattle.std.proofs.Common.{[], ◌∙◌}
-use Rattle.access_rule.specs.Tree.{found}
+use Rattle.tree_model.specs.Tree.{found}
 use Rattle.machine_model.specs.FileCalls.{open_at}
 use Rattle.vnode_tree.specs.Nodes.{path_of}
 use Rattle.file_calls.specs.Views.{view_of}

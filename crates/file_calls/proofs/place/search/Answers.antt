@@ -1,6 +1,6 @@
 use Rattle.std.proofs.Common.{sym, ap, ◌∙◌}
 use Rattle.std.proofs.lemmas.Result.{err_from_is_err_and}
-use Rattle.access_rule.specs.Tree.{at_path, nodes_from}
+use Rattle.tree_model.specs.Tree.{at_path, nodes_from}
 use Rattle.vnode_tree.specs.Nodes.{path_of}
 use Rattle.file_calls.specs.Makes.{rule_of}
 use Rattle.file_calls.proofs.Ways.{closed_here, open_here}

@@ -1,5 +1,5 @@
 use Rattle.std.proofs.Common.{◌≡◌, map, drop}
-use Rattle.access_rule.specs.Tree.{at_path, nodes_from}
+use Rattle.tree_model.specs.Tree.{at_path, nodes_from}
 use Rattle.vnode_tree.specs.Nodes.{path_of}
 use Rattle.file_calls.specs.Places.{search_rules}
 use Rattle.file_calls.proofs.place.search.Given as goal

@@ -2,7 +2,7 @@ use Rattle.std.proofs.Common.{◌≡◌, ◌≢◌, ℕ, true, false, Some, None
 use Rattle.std.specs.List.{list_any}
 use Rattle.sys_types.specs.declared.node.Kind.{Kind}
 use Rattle.sys_types.specs.declared.rules.Rule.TheVariants.{LabelWrite, InUse}
-use Rattle.access_rule.specs.Tree.{is_dir_record, parent_of}
+use Rattle.tree_model.specs.Tree.{is_dir_record, parent_of}
 use Rattle.machine_model.specs.PathCalls.{unlink_at, is_file_of}
 use Rattle.machine_model.specs.Places.{access_line, node_dominates}
 use Rattle.machine_model.specs.Rows.{denied_by}
@@ -45,7 +45,7 @@ returns-then-refers_to-clause-does c = λ line recheck.
 pub returns-clause-open_files : goal.returns-clause-open_files
 returns-clause-open_files c =
     let apart = none_refers c.args.files.now c.in-Ok.node (sym c.refers_to.ensures ∙ c.if-refers_to.false) in
-    rw c.remove.ensures.gone (open_kept c.args.tree.now _ c.args.files.now (other_files c.args.tree.now c.in-Ok.node None c.args.files.now apart) c.requires.open_files)
+    rw c.remove.ensures.without_node (open_kept c.args.tree.now _ c.args.files.now (other_files c.args.tree.now c.in-Ok.node None c.args.files.now apart) c.requires.open_files)
 
 pub returns-clause-does : goal.returns-clause-does
 returns-clause-does c = λ line recheck.
@@ -60,10 +60,10 @@ returns-clause-does c = λ line recheck.
     let free : access_line v (parent_of place) false true false ≡ None = parent_free nodes caller c.parent.result (parent_of place) (sym c.check.ensures ∙ ap rule_of c.in_default.is) c.parent.ensures.here in
     let label : node_dominates v (what_is nodes node) ≡ true = sym (c.label_writes.ensures files line recheck) ∙ c.if-not-label_writes.false in
     let apart = none_refers files node (sym c.refers_to.ensures ∙ c.if-refers_to.false) in
-    let unused : list_any (is_file_of place) v.descriptors ≡ false = none_seen nodes files node (λ fd f at. alone nodes new node f.node c.remove.ensures.gone c.remove.ensures.changes (c.requires.open_files.each fd f at).live (apart fd f at)) in
-    let kept : AreKeptAt nodes new files = rw c.remove.ensures.gone (other_files nodes node None files apart) in
+    let unused : list_any (is_file_of place) v.descriptors ≡ false = none_seen nodes files node (λ fd f at. alone nodes new node f.node c.remove.ensures.without_node c.remove.ensures.changes (c.requires.open_files.each fd f at).live (apart fd f at)) in
+    let kept : AreKeptAt nodes new files = rw c.remove.ensures.without_node (other_files nodes node None files apart) in
     let away : caller.directory ≢ node = λ same. absurd (let never : true ≡ false = sym c.requires.home.directory ∙ ap (λ (n : ℕ). is_dir_record (record_of nodes n)) same ∙ ap is_dir_record c.kind.ensures.map ∙ plain.0 in cc) in
-    let home : IsKeptAt nodes new caller.directory = rw c.remove.ensures.gone (other_kept nodes node caller.directory None away) in
+    let home : IsKeptAt nodes new caller.directory = rw c.remove.ensures.without_node (other_kept nodes node caller.directory None away) in
     rw c.number.ensures (at_node v _ _ c.args.path.now (unlink_at v) place (ap denied_by c.in-Ok.ensures.allowed) c.in-Ok.ensures.ends
     (goes_on v _ (unlink_at v place) (rw (plain.0, plain.1, free, label, unused) refl)
     (view_changes nodes new files caller line recheck place None c.remove.ensures.map kept home)))

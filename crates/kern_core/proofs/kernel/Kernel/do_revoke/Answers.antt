@@ -1,5 +1,5 @@
 use Rattle.std.proofs.Common.{[], ap}
-use Rattle.access_rule.specs.Tree.{nodes_from}
+use Rattle.tree_model.specs.Tree.{nodes_from}
 use Rattle.machine_model.specs.LineCalls.{revoke_row}
 use Rattle.file_calls.specs.Views.{seen_caller, view_of}
 use Rattle.file_calls.proofs.Files.{killed_open, seen_killed}

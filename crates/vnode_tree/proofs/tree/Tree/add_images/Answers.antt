@@ -5,7 +5,7 @@ use Rattle.sys_types.specs.declared.node.Kind.TheVariants as kind
 use Rattle.sys_types.specs.declared.image.Image.{Image}
 use Rattle.sys_types.specs.declared.image.Image.TheVariants as image
 use Rattle.sys_types.specs.Images.{images, image_name}
-use Rattle.vnode_tree.specs.Nodes.{Named}
+use Rattle.vnode_tree.specs.Nodes.{NodeAt}
 use Rattle.vnode_tree.specs.Standard.{IsMapOf, standard_dirs, image_node, image_text, bin_node, super_node, mode_755}
 use Rattle.vnode_tree.proofs.Maps.{held, keeps_on}
 use Rattle.vnode_tree.proofs.Standards.{adds, image_at, image_fits, images_more}
@@ -28,5 +28,5 @@ loop-image-preserved c =
     c.add_super.ensures.grows bin_node (standard_dirs ++ map image_node (take c.loop-image.image-index images)) c.loop-image.invariant.1 c.loop-image.invariant.0 in
     let node : super_node (codes "bin" ∷ c.as_bytes-name.result.now ∷ []) kind.File mode_755 element.Low c.in_ok-contents.contents ≡ image_node (image_at c.loop-image.image-index) = ap₂ (λ (n t : List ℕ). super_node (codes "bin" ∷ n ∷ []) kind.File mode_755 element.Low t) name text in
     let all : (standard_dirs ++ map image_node (take c.loop-image.image-index images)) ++ super_node (codes "bin" ∷ c.as_bytes-name.result.now ∷ []) kind.File mode_755 element.Low c.in_ok-contents.contents ∷ [] ≡ standard_dirs ++ map image_node (take (c.loop-image.image-index + 1) images) =
-    ap (λ (n : Named). (standard_dirs ++ map image_node (take c.loop-image.image-index images)) ++ n ∷ []) node ∙ images_more c.loop-image.image-index c.loop-image-test.true in
+    ap (λ (n : NodeAt). (standard_dirs ++ map image_node (take c.loop-image.image-index images)) ++ n ∷ []) node ∙ images_more c.loop-image.image-index c.loop-image-test.true in
     (subst (IsMapOf c.add_super.new.self) all grown, held c.loop-image.self c.add_super.new.self c.args.bin bin_node c.add_super.ensures.keeps c.loop-image.invariant.1, keeps_on c.args.self.now c.loop-image.self c.add_super.new.self c.loop-image.invariant.2 c.add_super.ensures.keeps, c.loop-image.invariant.3)

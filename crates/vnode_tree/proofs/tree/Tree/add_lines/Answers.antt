@@ -3,7 +3,7 @@ use Rattle.std.specs.Prelude.{codes}
 use Rattle.std.specs.List.{range_with_len}
 use Rattle.label_core.specs.declared.element.Element.TheVariants as element
 use Rattle.sys_types.specs.declared.node.Kind.TheVariants as kind
-use Rattle.vnode_tree.specs.Nodes.{Named}
+use Rattle.vnode_tree.specs.Nodes.{NodeAt}
 use Rattle.vnode_tree.specs.Standard.{IsMapOf, with_images, line_node, line_name, dev_node, super_node, mode_600, mode_666}
 use Rattle.vnode_tree.proofs.Maps.{held, keeps_on}
 use Rattle.vnode_tree.proofs.Standards.{adds, line_fits, lines_more, tty_fits}
@@ -20,7 +20,7 @@ loop-number-preserved c =
     c.add_super.ensures.grows dev_node (with_images ++ map line_node (range_with_len 0 c.loop-number.number)) c.loop-number.invariant.1 c.loop-number.invariant.0 in
     let node : super_node (codes "dev" ∷ c.line_name-name.result ∷ []) (kind.Line c.loop-number.number) mode_600 element.Equal c.empty-contents.result ≡ line_node c.loop-number.number = ap₂ (λ (name t : List ℕ). super_node (codes "dev" ∷ name ∷ []) (kind.Line c.loop-number.number) mode_600 element.Equal t) c.line_name-name.ensures c.empty-contents.ensures in
     let all : (with_images ++ map line_node (range_with_len 0 c.loop-number.number)) ++ super_node (codes "dev" ∷ c.line_name-name.result ∷ []) (kind.Line c.loop-number.number) mode_600 element.Equal c.empty-contents.result ∷ [] ≡ with_images ++ map line_node (range_with_len 0 (c.loop-number.number + 1)) =
-    ap (λ (x : Named). (with_images ++ map line_node (range_with_len 0 c.loop-number.number)) ++ x ∷ []) node ∙ lines_more c.loop-number.number in
+    ap (λ (x : NodeAt). (with_images ++ map line_node (range_with_len 0 c.loop-number.number)) ++ x ∷ []) node ∙ lines_more c.loop-number.number in
     (subst (IsMapOf c.add_super.new.self) all grown, held c.loop-number.self c.add_super.new.self c.args.dev dev_node c.add_super.ensures.keeps c.loop-number.invariant.1, keeps_on c.args.self.now c.loop-number.self c.add_super.new.self c.loop-number.invariant.2 c.add_super.ensures.keeps)
 
 pub add_super-requires-2-clause-room : goal.add_super-requires-2-clause-room

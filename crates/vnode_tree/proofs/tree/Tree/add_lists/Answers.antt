@@ -2,13 +2,13 @@ use Rattle.std.proofs.Common.{◌∷◌, ◌++◌, ◌≤◌, ℕ, List, [], len
 use Rattle.std.specs.Prelude.{codes}
 use Rattle.label_core.specs.declared.element.Element.TheVariants as element
 use Rattle.sys_types.specs.declared.node.Kind.TheVariants as kind
-use Rattle.vnode_tree.specs.Nodes.{Named}
+use Rattle.vnode_tree.specs.Nodes.{NodeAt}
 use Rattle.vnode_tree.specs.Standard.{IsMapOf, with_lines, etc_node, super_node, mode_600, mode_644}
 use Rattle.vnode_tree.proofs.Maps.{held}
 use Rattle.vnode_tree.proofs.Standards.{adds, users_fits, ttys_fits}
 use Rattle.vnode_tree.proofs.tree.Tree.add_lists.Goals as goal
 
-abbrev users : Named
+abbrev users : NodeAt
 users = super_node (codes "etc" ∷ codes "users" ∷ []) kind.File mode_600 element.Low []
 
 pub add_super-requires-clause-room : goal.add_super-requires-clause-room

@@ -19,7 +19,7 @@ room : (c : goal.After-of) → sum_by size_in c.self.inside.entries.items + leng
 room c = omega (arith, c.requires.room, space_is c.self.inside.entries.items c.args.self.now c.self.view_is c.self.invariant)
 
 done : (c : goal.After-of) → Made c.args.self.now c.in-Some.place (path_of c.args.self.now c.args.dir ++ c.args.name.now ∷ []) (new_node c.args.kind c.args.attrs c.args.default c.args.contents) (set c.self.inside.entries.items c.in-Some.place (Some (entry c)))
-done c = made_call c.self.inside.entries.items c.as_slice.result.now c.args.self.now c.in-Some.place (entry c) c.args.dir c.args.name.now c.self.view_is c.self.invariant c.as_slice.ensures.value c.in-Some.ensures c.number.ensures c.copy.ensures c.requires.dir c.requires.named c.requires.kind (room c) c.requires.absent
+done c = made_call c.self.inside.entries.items c.as_slice.result.now c.args.self.now c.in-Some.place (entry c) c.args.dir c.args.name.now c.self.view_is c.self.invariant c.as_slice.ensures.value c.in-Some.ensures c.number.ensures c.copy.ensures.same c.copy.ensures.most c.requires.dir c.requires.name c.requires.kind (room c) c.requires.absent
 
 pub invariant_of-self : goal.invariant_of-self
 invariant_of-self c = (done c).kept
@@ -30,8 +30,8 @@ returns-clause-full c = (λ no. absurd (let wrong : false ≡ true = no in cc), 
 pub returns-clause-free : goal.returns-clause-free
 returns-clause-free c = rw c.of.ensures (done c).free
 
-pub returns-clause-made : goal.returns-clause-made
-returns-clause-made c = rw c.of.ensures (done c).made
+pub returns-clause-new_node : goal.returns-clause-new_node
+returns-clause-new_node c = rw c.of.ensures (done c).made
 
 pub returns-clause-live : goal.returns-clause-live
 returns-clause-live c = rw c.of.ensures (done c).live

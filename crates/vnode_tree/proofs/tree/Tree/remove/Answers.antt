@@ -5,8 +5,8 @@ use Rattle.vnode_tree.proofs.tree.Tree.remove.Goals as goal
 pub invariant_of-self : goal.invariant_of-self
 invariant_of-self c = rw (place_written c.self.inside.entries.len c.self.inside.entries.items c.as_mut_slice.result.now c.take_away.new.entries c.args.node c.self.inside.entries.ok.0 c.as_mut_slice.ensures.value c.take_away.ensures) (removed c.self.inside.entries.items c.args.self.now c.args.node c.self.view_is c.self.invariant c.requires.live c.requires.removable).kept
 
-pub returns-clause-gone : goal.returns-clause-gone
-returns-clause-gone c = rw (place_written c.self.inside.entries.len c.self.inside.entries.items c.as_mut_slice.result.now c.take_away.new.entries c.args.node c.self.inside.entries.ok.0 c.as_mut_slice.ensures.value c.take_away.ensures) (removed c.self.inside.entries.items c.args.self.now c.args.node c.self.view_is c.self.invariant c.requires.live c.requires.removable).gone
+pub returns-clause-without_node : goal.returns-clause-without_node
+returns-clause-without_node c = rw (place_written c.self.inside.entries.len c.self.inside.entries.items c.as_mut_slice.result.now c.take_away.new.entries c.args.node c.self.inside.entries.ok.0 c.as_mut_slice.ensures.value c.take_away.ensures) (removed c.self.inside.entries.items c.args.self.now c.args.node c.self.view_is c.self.invariant c.requires.live c.requires.removable).gone
 
 pub returns-clause-changes : goal.returns-clause-changes
 returns-clause-changes c = rw (place_written c.self.inside.entries.len c.self.inside.entries.items c.as_mut_slice.result.now c.take_away.new.entries c.args.node c.self.inside.entries.ok.0 c.as_mut_slice.ensures.value c.take_away.ensures) (removed c.self.inside.entries.items c.args.self.now c.args.node c.self.view_is c.self.invariant c.requires.live c.requires.removable).changes

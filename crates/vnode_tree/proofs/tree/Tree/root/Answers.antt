@@ -1,5 +1,5 @@
 use Rattle.std.proofs.Common.{ap, ◌∙◌}
-use Rattle.access_rule.specs.Tree.{is_dir, is_dir_record}
+use Rattle.tree_model.specs.Tree.{is_dir, is_dir_record}
 use Rattle.vnode_tree.proofs.Children.{root_at}
 use Rattle.vnode_tree.proofs.Looks.{record_is}
 use Rattle.vnode_tree.proofs.tree.Tree.root.Goals as goal

@@ -1,5 +1,5 @@
 use Rattle.std.proofs.Common.{◌∷◌, [], List, ℕ, sym, ◌∙◌, subst}
-use Rattle.access_rule.specs.Tree.{walk_from, name_long, not_dir, found}
+use Rattle.tree_model.specs.Tree.{walk_from, name_long, not_dir, found}
 use Rattle.vnode_tree.specs.Nodes.{path_of, tree_of}
 use Rattle.vnode_tree.proofs.WalkSteps.{walk_long, walk_not_dir, walk_done}
 use Rattle.vnode_tree.proofs.Walking.{Walking, walk_ends, walk_takes, goes_up, goes_down, lacks}

@@ -1,5 +1,5 @@
 use Rattle.std.proofs.Common.{length}
-use Rattle.access_rule.specs.Tree.{walk_from}
+use Rattle.tree_model.specs.Tree.{walk_from}
 use Rattle.vnode_tree.specs.Nodes.{path_of, tree_of}
 use Rattle.vnode_tree.proofs.Walking.{Walking}
 use Rattle.vnode_tree.proofs.tree.Tree.walk_from.Given as goal

@@ -9,7 +9,7 @@ use Rattle.sys_types.specs.declared.node.Kind.{Kind}
 use Rattle.sys_types.specs.declared.rules.Rule.{Rule}
 use Rattle.sys_types.specs.declared.rules.Rule.TheVariants as rule
 use Rattle.access_rule.specs.Access.{first, line, refusal}
-use Rattle.access_rule.specs.Tree.{NodeRecord, is_dir}
+use Rattle.tree_model.specs.Tree.{NodeRecord, is_dir}
 
 -- the bits of a mode that a umask does not have; both are numbers of 16 bits
 abbrev pub without : ℕ → ℕ → ℕ
@@ -51,5 +51,5 @@ abbrev pub make_rule_in : Cred → Subject → Option NodeRecord → Bool → Op
 make_rule_in cred subject None full = None
 make_rule_in cred subject (Some dir) full = make_rule cred subject dir full
 
-abbrev pub made_in : Cred → Subject → ℕ → Option NodeRecord → Kind → ℕ → Option NodeRecord
-made_in cred subject umask dir kind mode = option_map (λ d. new_in cred subject umask d kind mode) dir
+abbrev pub new_in_dir : Cred → Subject → ℕ → Option NodeRecord → Kind → ℕ → Option NodeRecord
+new_in_dir cred subject umask dir kind mode = option_map (λ d. new_in cred subject umask d kind mode) dir

@@ -13,15 +13,15 @@ use Rattle.sys_types.specs.Images.{images, image_name}
 use Rattle.user_db.specs.declared.boot.Boot.{Boot}
 use Rattle.user_db.specs.declared.user.User.{User}
 use Rattle.access_rule.specs.declared.Attrs.{Attrs}
-use Rattle.access_rule.specs.Tree.{Named, Nodes, new_node, nodes_from, is_dir}
+use Rattle.tree_model.specs.Tree.{NodeAt, Nodes, new_node, nodes_from, is_dir}
 
 -- attributes by an owner, a group, a mode and an element
-abbrev pub owned : ℕ → ℕ → Kind → ℕ → Element → Attrs
-owned uid gid kind mode element = record { element = element; owner = uid; group = gid; list = minimal_list mode; is_dir = is_dir kind }
+abbrev pub attrs_of_owner : ℕ → ℕ → Kind → ℕ → Element → Attrs
+attrs_of_owner uid gid kind mode element = record { element = element; owner = uid; group = gid; list = minimal_list mode; is_dir = is_dir kind }
 
 -- a node of the superuser
-abbrev pub super_node : List (List ℕ) → Kind → ℕ → Element → List ℕ → Named
-super_node path kind mode element contents = record { path = path; node = new_node kind (owned 0 0 kind mode element) None contents }
+abbrev pub super_node : List (List ℕ) → Kind → ℕ → Element → List ℕ → NodeAt
+super_node path kind mode element contents = record { path = path; node = new_node kind (attrs_of_owner 0 0 kind mode element) None contents }
 
 -- the modes 755, 777, 700, 600, 644 and 666 in octal
 abbrev pub mode_755 : ℕ
@@ -42,26 +42,26 @@ mode_644 = 420
 abbrev pub mode_666 : ℕ
 mode_666 = 438
 
-abbrev pub root_node : Named
+abbrev pub root_node : NodeAt
 root_node = super_node [] kind.Dir mode_755 element.Low []
 
-abbrev pub bin_node : Named
+abbrev pub bin_node : NodeAt
 bin_node = super_node (codes "bin" ∷ []) kind.Dir mode_755 element.Low []
 
-abbrev pub etc_node : Named
+abbrev pub etc_node : NodeAt
 etc_node = super_node (codes "etc" ∷ []) kind.Dir mode_755 element.Low []
 
-abbrev pub home_dir_node : Named
+abbrev pub home_dir_node : NodeAt
 home_dir_node = super_node (codes "home" ∷ []) kind.Dir mode_755 element.Low []
 
-abbrev pub dev_node : Named
+abbrev pub dev_node : NodeAt
 dev_node = super_node (codes "dev" ∷ []) kind.Dir mode_755 element.Equal []
 
-abbrev pub tmp_node : Named
+abbrev pub tmp_node : NodeAt
 tmp_node = super_node (codes "tmp" ∷ []) kind.Dir mode_777 element.Equal []
 
 -- the directories
-abbrev pub standard_dirs : List Named
+abbrev pub standard_dirs : List NodeAt
 standard_dirs = root_node ∷ bin_node ∷ etc_node ∷ home_dir_node ∷ dev_node ∷ tmp_node ∷ []
 
 -- what the file of a program holds
@@ -69,7 +69,7 @@ abbrev pub image_text : Image → List ℕ
 image_text image = codes "image " ++ image_name image ++ codes "\n"
 
 -- the file of a program
-abbrev pub image_node : Image → Named
+abbrev pub image_node : Image → NodeAt
 image_node image = super_node (codes "bin" ∷ image_name image ∷ []) kind.File mode_755 element.Low (image_text image)
 
 -- the digit of a number below ten
@@ -87,7 +87,7 @@ abbrev pub ttys_text : List Bool → List ℕ
 ttys_text on = flat_map (tty_text on) (range_with_len 0 8)
 
 -- the files of users and of lines. A line of text for each user comes with the boot texts that name users.
-abbrev pub list_nodes : List Bool → List Named
+abbrev pub list_nodes : List Bool → List NodeAt
 list_nodes on =
     super_node (codes "etc" ∷ codes "users" ∷ []) kind.File mode_600 element.Low []
     ∷ super_node (codes "etc" ∷ codes "ttys" ∷ []) kind.File mode_644 element.Low (ttys_text on)
@@ -98,27 +98,27 @@ abbrev pub line_name : ℕ → List ℕ
 line_name number = codes "tty" ++ digit number ∷ []
 
 -- a terminal line
-abbrev pub line_node : ℕ → Named
+abbrev pub line_node : ℕ → NodeAt
 line_node number = super_node (codes "dev" ∷ line_name number ∷ []) (kind.Line number) mode_600 element.Equal []
 
 -- the caller's own line
-abbrev pub tty_node : Named
+abbrev pub tty_node : NodeAt
 tty_node = super_node (codes "dev" ∷ codes "tty" ∷ []) kind.Tty mode_666 element.Equal []
 
 -- a user's home
-abbrev pub home_node : User → Named
-home_node user = record { path = codes "home" ∷ user.name ∷ []; node = new_node kind.Dir (owned user.cred.uid user.cred.gid kind.Dir mode_700 user.label.active) None [] }
+abbrev pub home_node : User → NodeAt
+home_node user = record { path = codes "home" ∷ user.name ∷ []; node = new_node kind.Dir (attrs_of_owner user.cred.uid user.cred.gid kind.Dir mode_700 user.label.active) None [] }
 
 -- the directories and the files of programs
-abbrev pub with_images : List Named
+abbrev pub with_images : List NodeAt
 with_images = standard_dirs ++ map image_node images
 
 -- and the terminal lines
-abbrev pub with_lines : List Named
+abbrev pub with_lines : List NodeAt
 with_lines = (with_images ++ map line_node (range_with_len 0 8)) ++ tty_node ∷ []
 
 -- all nodes of a boot
-unfoldable pub standard : Boot → List Named
+unfoldable pub standard : Boot → List NodeAt
 standard boot = (with_lines ++ list_nodes boot.on) ++ map home_node boot.users
 
 -- the tree of a boot

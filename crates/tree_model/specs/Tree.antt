@@ -25,7 +25,7 @@ abbrev pub Tree : Type 0
 Tree = List (List ℕ) → Option NodeRecord
 
 -- a node: its path, which is the list of names from the root down to it, and what it is
-pub record Named : Type 0 where
+pub record NodeAt : Type 0 where
   pub path : List (List ℕ)
   pub node : NodeRecord
 
@@ -45,15 +45,15 @@ unfoldable pub at_path : Nodes → Tree
 at_path nodes path = find path_cmp path nodes
 
 -- with this at a path, and all else as it was; or with nothing there
-unfoldable pub placed : Nodes → List (List ℕ) → Option NodeRecord → Nodes
-placed nodes path (Some node) = put path_cmp path node nodes
-placed nodes path None = where_key path_cmp (λ other. not (eq_by_cmp path_cmp path other)) nodes
+unfoldable pub with_node_at : Nodes → List (List ℕ) → Option NodeRecord → Nodes
+with_node_at nodes path (Some node) = put path_cmp path node nodes
+with_node_at nodes path None = where_key path_cmp (λ other. not (eq_by_cmp path_cmp path other)) nodes
 
 -- a tree of some nodes; of two at one path it has the first
-unfoldable pub nodes_from : List (Option Named) → Nodes
+unfoldable pub nodes_from : List (Option NodeAt) → Nodes
 nodes_from [] = []
 nodes_from (None ∷ more) = nodes_from more
-nodes_from (Some named ∷ more) = placed (nodes_from more) named.path (Some named.node)
+nodes_from (Some node ∷ more) = with_node_at (nodes_from more) node.path (Some node.node)
 
 -- how many bytes all files hold
 unfoldable pub bytes_in : Nodes → ℕ
@@ -85,7 +85,7 @@ pub data WalkEnd : Type 0 where
   path_long : WalkEnd
 
 -- the directories in which a part was looked for, in order, and the end
-pub record Walked : Type 0 where
+pub record PathWalk : Type 0 where
   pub passed : List (List (List ℕ))
   pub end : WalkEnd
 
@@ -107,11 +107,11 @@ steps text = filter (λ part. not (is_skipped part)) (slice_split is_slash text)
 abbrev pub parent_of : List (List ℕ) → List (List ℕ)
 parent_of path = take (length path - 1) path
 
-abbrev pub ended : WalkEnd → Walked
-ended end = record { passed = []; end = end }
+abbrev pub walk_ending : WalkEnd → PathWalk
+walk_ending end = record { passed = []; end = end }
 
-abbrev pub passing : List (List ℕ) → Walked → Walked
-passing here walked = record { passed = here ∷ walked.passed; end = walked.end }
+abbrev pub walk_past : List (List ℕ) → PathWalk → PathWalk
+walk_past here by_walk = record { passed = here ∷ by_walk.passed; end = by_walk.end }
 
 -- only the last part may be absent
 abbrev pub absent_end : List (List ℕ) → List ℕ → List (List ℕ) → WalkEnd
@@ -119,15 +119,15 @@ absent_end here part [] = absent here part
 absent_end here part (next ∷ more) = missing
 
 -- a walk from a directory through parts
-unfoldable pub walk_from : Tree → List (List ℕ) → List (List ℕ) → Walked
-walk_from tree here [] = ended (found here)
+unfoldable pub walk_from : Tree → List (List ℕ) → List (List ℕ) → PathWalk
+walk_from tree here [] = walk_ending (found here)
 walk_from tree here (part ∷ parts) =
-    if nat_lt 255 (length part) then ended name_long
-    else (if not (is_dir_record (tree here)) then ended not_dir
-    else passing here (
+    if nat_lt 255 (length part) then walk_ending name_long
+    else (if not (is_dir_record (tree here)) then walk_ending not_dir
+    else walk_past here (
     if is_parent part then walk_from tree (parent_of here) parts
     else (if is_some (tree (here ++ part ∷ [])) then walk_from tree (here ++ part ∷ []) parts
-    else ended (absent_end here part parts))))
+    else walk_ending (absent_end here part parts))))
 
 -- where a path begins: at the root where its first byte is a slash
 abbrev pub begin_at : List (List ℕ) → List ℕ → List (List ℕ)
@@ -135,8 +135,8 @@ begin_at here [] = here
 begin_at here (b ∷ rest) = if is_slash b then [] else here
 
 -- the walk of a path's text from a directory
-unfoldable pub walk : Tree → List (List ℕ) → List ℕ → Walked
+unfoldable pub walk : Tree → List (List ℕ) → List ℕ → PathWalk
 walk tree here text =
-    if nat_lt 1023 (length text) then ended path_long
-    else (if length text == 0 then ended missing
+    if nat_lt 1023 (length text) then walk_ending path_long
+    else (if length text == 0 then walk_ending missing
     else walk_from tree (begin_at here text) (steps text))

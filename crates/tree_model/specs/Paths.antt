@@ -5,8 +5,8 @@ use Rattle.acl_core.specs.declared.cred.Cred.{Cred}
 use Rattle.sys_types.specs.declared.rules.Rule.{Rule}
 use Rattle.sys_types.specs.declared.rules.Rule.TheVariants as rule
 use Rattle.access_rule.specs.Access.{first, line, refusal}
-use Rattle.access_rule.specs.Tree.{NodeRecord, Tree, WalkEnd, walk, is_dir_record, is_parent, parent_of, steps, begin_at}
-use Rattle.access_rule.specs.Tree as tree
+use Rattle.tree_model.specs.Tree.{NodeRecord, Tree, WalkEnd, walk, is_dir_record, is_parent, parent_of, steps, begin_at}
+use Rattle.tree_model.specs.Tree as tree
 
 -- the first rule by which a caller may not read, write or execute what is at a path
 abbrev pub access_rule : Cred → Subject → Option NodeRecord → Bool → Bool → Bool → Option Rule

@@ -1,0 +1,6 @@
+pub mod Contents
+pub mod Listing
+pub mod NewNodes
+pub mod Paths
+pub mod Standard
+pub mod Tree
