@@ -57,7 +57,8 @@ no_word (b ∷ rest) ends = ap not ends
 
 pub word_or_end : (rest : List ℕ) → begins_word rest ≡ false → EndsWord rest
 word_or_end [] none = tt
-word_or_end (b ∷ rest) none = elim (cases_Bool (ends_word b)) [ inl ends ↦ ends | inr goes ↦ (let wrong : true ≡ false = sym (ap not goes) ∙ none in absurd cc) ]
+word_or_end (b ∷ rest) none =
+    elim (cases_Bool (ends_word b)) [ inl ends ↦ ends | inr goes ↦ (let wrong : true ≡ false = sym (ap not goes) ∙ none in absurd cc) ]
 
 pub blanks_end : (blanks rest : List ℕ) → AreBlanks blanks → 1 ≤ length blanks → EndsWord (blanks ++ rest)
 blanks_end [] rest are some = absurd (omega (arith, some))

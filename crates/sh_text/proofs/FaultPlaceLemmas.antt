@@ -3,20 +3,21 @@
 use Rattle.std.proofs.Common.{◌≡◌, ◌⊎◌, ℕ, zero, suc, ◌-◌, ◌≤◌, Bool, true, false, cond, not, eqb, List, [], ◌∷◌, ◌++◌, length, drop, Some, Result, Ok, Err, refl, sym, ap, ◌∙◌, arith, inl, inr}
 use Rattle.std.specs.Prelude.{is_none, codes}
 use Rattle.std.proofs.lemmas.Bool.{cases_Bool, eqb-true, ne_eqb}
+use Rattle.sh_text.specs.declared.fault.Stop.{Stop}
 use Rattle.sh_text.specs.declared.words.Quoting.{Quoting}
-use Rattle.sh_text.specs.declared.words.Quoting.TheVariants.{Bare, Quoted, Escaped}
+use Rattle.sh_text.specs.declared.words.Quoting.TheVariants.{Bare, InQuotes, BehindBackslash}
 use Rattle.sh_text.specs.declared.tree.Command.{Command}
 use Rattle.sh_text.specs.declared.tree.Job.{Job}
 use Rattle.sh_text.specs.declared.jobs.TheConstants.{MOST_COMMANDS}
 use Rattle.sh_text.specs.Bytes.{is_blank, ends_word, after_blanks, begins}
-use Rattle.sh_text.specs.Reading.{◌>>=◌, word_from, word_at, target_at, output_at, begins_item, item_at, no_items, command_at, commands_within, commands_at, ending_at, job_at}
+use Rattle.sh_text.specs.Reading.{◌>>=◌, stop_at, word_from, word_at, target_at, output_at, begins_item, item_at, no_items, command_at, commands_within, commands_at, ending_at, job_at}
 use Rattle.sh_text.specs.Faults.{AreBytes}
-use Rattle.sh_text.proofs.Results.{alike, then_assoc, err_not_ok}
-use Rattle.sh_text.proofs.Blanks.{blank_skipped, other_stays, no_blank}
-use Rattle.sh_text.proofs.WordTaking.{at_end, at_quote, at_backslash, at_bare, at_close, at_inner, at_escaped}
-use Rattle.sh_text.proofs.ItemTaking.{third, at_input, at_append, at_output, at_word}
-use Rattle.sh_text.proofs.ItemSteps.{items_from, items_at_from, items_none, items_step, items_same}
-use Rattle.sh_text.proofs.LineTaking.{jobs_from, jobs_none, jobs_step, jobs_same}
+use Rattle.sh_text.proofs.StepLemmas.{alike, then_assoc, err_not_ok}
+use Rattle.sh_text.proofs.BlankLemmas.{blank_skipped, other_stays, no_blank}
+use Rattle.sh_text.proofs.WordGrammarLemmas.{at_end, at_quote, at_backslash, at_bare, at_close, at_inner, at_escaped}
+use Rattle.sh_text.proofs.ItemGrammarLemmas.{third, at_input, at_append, at_output, at_word}
+use Rattle.sh_text.proofs.ItemStepLemmas.{items_from, items_at_from, items_none, items_step, items_same}
+use Rattle.sh_text.proofs.LineGrammarLemmas.{jobs_from, jobs_none, jobs_step, jobs_same}
 
 -- what was read of a line before the command that is read
 record Before : Type 0 where
@@ -46,36 +47,37 @@ data State : Type 0 where
 
 -- what reading does behind a command's items, a command, and a job's commands
 
-abbrev checked : Command × List ℕ → Result (Command × List ℕ) ℕ
-checked read = cond (eqb (length (read.0).words) 0) (Err (length read.1)) (Ok read)
+abbrev command_check : Command × List ℕ → Result (Command × List ℕ) Stop
+command_check read = cond (eqb (length (read.0).words) 0) (Err (stop_at read.1)) (Ok read)
 
-abbrev after_command : ℕ → List Command → Command × List ℕ → Result (List Command × List ℕ) ℕ
+abbrev after_command : ℕ → List Command → Command × List ℕ → Result (List Command × List ℕ) Stop
 after_command zero commands read = Ok (commands ++ read.0 ∷ [], read.1)
-after_command (suc more) commands read = cond (begins 124 read.1) (commands_within more (commands ++ read.0 ∷ []) (drop 1 read.1)) (Ok (commands ++ read.0 ∷ [], read.1))
+after_command (suc more) commands read =
+    cond (begins 124 read.1) (commands_within more (commands ++ read.0 ∷ []) (drop 1 read.1)) (Ok (commands ++ read.0 ∷ [], read.1))
 
 abbrev job_of : List Command → Bool → Job
 job_of commands background = record { commands = commands; background = background }
 
-abbrev after_ending : List Job → List Command → Bool × List ℕ → Result (List Job) ℕ
+abbrev after_ending : List Job → List Command → Bool × List ℕ → Result (List Job) Stop
 after_ending jobs commands ending = jobs_from (jobs ++ job_of commands ending.0 ∷ []) ending.1
 
-abbrev after_commands : List Job → List Command × List ℕ → Result (List Job) ℕ
+abbrev after_commands : List Job → List Command × List ℕ → Result (List Job) Stop
 after_commands jobs read = ending_at read.1 >>= after_ending jobs read.0
 
-abbrev after_items : Before → Command × List ℕ → Result (List Job) ℕ
-after_items before read = (checked read >>= after_command before.more before.commands) >>= after_commands before.jobs
+abbrev after_items : Before → Command × List ℕ → Result (List Job) Stop
+after_items before read = (command_check read >>= after_command before.more before.commands) >>= after_commands before.jobs
 
-abbrev items_on : Before → Command × List ℕ → Result (List Job) ℕ
+abbrev items_on : Before → Command × List ℕ → Result (List Job) Stop
 items_on before longer = items_from longer.0 longer.1 >>= after_items before
 
-abbrev behind_word : Before → Command → Role → List ℕ × List ℕ → Result (List Job) ℕ
+abbrev behind_word : Before → Command → Role → List ℕ × List ℕ → Result (List Job) Stop
 behind_word before c role word = items_on before (put c role word.0, word.1)
 
-abbrev behind_mark : Command → List ℕ → Result (Command × List ℕ) ℕ
+abbrev behind_mark : Command → List ℕ → Result (Command × List ℕ) Stop
 behind_mark c bytes = cond (begins 62 bytes) (output_at c true (drop 1 bytes)) (output_at c false bytes)
 
 -- what reading on gives
-abbrev rest_of : State → List ℕ → Result (List Job) ℕ
+abbrev rest_of : State → List ℕ → Result (List Job) Stop
 rest_of (between jobs) bytes = jobs_from jobs bytes
 rest_of (within before c) bytes = items_from c bytes >>= after_items before
 rest_of (at_mark before c) bytes = behind_mark c bytes >>= items_on before
@@ -83,47 +85,50 @@ rest_of (at_target before c role) bytes = target_at bytes >>= behind_word before
 rest_of (in_word before c role quoting so_far) bytes = word_from quoting so_far bytes >>= behind_word before c role
 
 -- at this byte reading goes on from some state, or has a fault
-Moves : (List ℕ → Result (List Job) ℕ) → ℕ → Type 0
-Moves read b = ((s : State) × ((t : List ℕ) → read (b ∷ t) ≡ rest_of s t)) ⊎ ((t : List ℕ) → read (b ∷ t) ≡ Err (length (b ∷ t)))
+Moves : (List ℕ → Result (List Job) Stop) → ℕ → Type 0
+Moves read b = ((s : State) × ((t : List ℕ) → read (b ∷ t) ≡ rest_of s t)) ⊎ ((t : List ℕ) → read (b ∷ t) ≡ Err (stop_at (b ∷ t)))
 
-moves_same : (read other : List ℕ → Result (List Job) ℕ) (b : ℕ) → ((t : List ℕ) → read (b ∷ t) ≡ other (b ∷ t)) → Moves other b → Moves read b
+moves_same : (read other : List ℕ → Result (List Job) Stop) (b : ℕ) → ((t : List ℕ) → read (b ∷ t) ≡ other (b ∷ t)) → Moves other b → Moves read b
 unfolding Moves
 moves_same read other b same (inl goes) = inl (goes.0, λ t. same t ∙ goes.1 t)
 moves_same read other b same (inr stops) = inr (λ t. same t ∙ stops t)
 
-goes_to : (read : List ℕ → Result (List Job) ℕ) (b : ℕ) (s : State) → ((t : List ℕ) → read (b ∷ t) ≡ rest_of s t) → Moves read b
+goes_to : (read : List ℕ → Result (List Job) Stop) (b : ℕ) (s : State) → ((t : List ℕ) → read (b ∷ t) ≡ rest_of s t) → Moves read b
 unfolding Moves
 goes_to read b s goes = inl (s, goes)
 
-stops_at : (read : List ℕ → Result (List Job) ℕ) (b : ℕ) → ((t : List ℕ) → read (b ∷ t) ≡ Err (length (b ∷ t))) → Moves read b
+stops_at : (read : List ℕ → Result (List Job) Stop) (b : ℕ) → ((t : List ℕ) → read (b ∷ t) ≡ Err (stop_at (b ∷ t))) → Moves read b
 unfolding Moves
 stops_at read b stops = inr stops
 
 -- inside a word
 
-word_moves : (before : Before) (c : Command) (role : Role) (so_far : List ℕ) (b : ℕ) → ends_word b ≡ false → Moves (rest_of (in_word before c role Bare so_far)) b
+word_moves : (before : Before) (c : Command) (role : Role) (so_far : List ℕ) (b : ℕ) → ends_word b ≡ false
+    → Moves (rest_of (in_word before c role Bare so_far)) b
 word_moves before c role so_far b goes = elim (cases_Bool (eqb b 39)) [
-  | inl quote ↦ goes_to _ b (in_word before c role Quoted so_far) (λ t. rw (at_quote so_far t b goes quote) refl)
+  | inl quote ↦ goes_to _ b (in_word before c role InQuotes so_far) (λ t. rw (at_quote so_far t b goes quote) refl)
   | inr no_quote ↦ elim (cases_Bool (eqb b 92)) [
-    | inl backslash ↦ goes_to _ b (in_word before c role Escaped so_far) (λ t. rw (at_backslash so_far t b goes no_quote backslash) refl)
+    | inl backslash ↦ goes_to _ b (in_word before c role BehindBackslash so_far) (λ t. rw (at_backslash so_far t b goes no_quote backslash) refl)
     | inr none ↦ goes_to _ b (in_word before c role Bare (so_far ++ b ∷ [])) (λ t. rw (at_bare so_far t b goes no_quote none) refl)
   ]
 ]
 
-quoted_moves : (before : Before) (c : Command) (role : Role) (so_far : List ℕ) (b : ℕ) → Moves (rest_of (in_word before c role Quoted so_far)) b
+quoted_moves : (before : Before) (c : Command) (role : Role) (so_far : List ℕ) (b : ℕ) → Moves (rest_of (in_word before c role InQuotes so_far)) b
 quoted_moves before c role so_far b = elim (cases_Bool (eqb b 39)) [
   | inl quote ↦ goes_to _ b (in_word before c role Bare so_far) (λ t. rw (at_close so_far t b quote) refl)
-  | inr none ↦ goes_to _ b (in_word before c role Quoted (so_far ++ b ∷ [])) (λ t. rw (at_inner so_far t b none) refl)
+  | inr none ↦ goes_to _ b (in_word before c role InQuotes (so_far ++ b ∷ [])) (λ t. rw (at_inner so_far t b none) refl)
 ]
 
-escaped_moves : (before : Before) (c : Command) (role : Role) (so_far : List ℕ) (b : ℕ) → Moves (rest_of (in_word before c role Escaped so_far)) b
+escaped_moves : (before : Before) (c : Command) (role : Role) (so_far : List ℕ) (b : ℕ) → Moves (rest_of (in_word before c role BehindBackslash so_far)) b
 escaped_moves before c role so_far b = goes_to _ b (in_word before c role Bare (so_far ++ b ∷ [])) (λ t. rw (at_escaped so_far t b) refl)
 
 -- a word ends where a command's items go on
-word_out : (before : Before) (c : Command) (role : Role) (so_far : List ℕ) (b : ℕ) (t : List ℕ) → ends_word b ≡ true → rest_of (in_word before c role Bare so_far) (b ∷ t) ≡ rest_of (within before (put c role so_far)) (b ∷ t)
+word_out : (before : Before) (c : Command) (role : Role) (so_far : List ℕ) (b : ℕ) (t : List ℕ) → ends_word b ≡ true
+    → rest_of (in_word before c role Bare so_far) (b ∷ t) ≡ rest_of (within before (put c role so_far)) (b ∷ t)
 word_out before c role so_far b t ends = rw (at_end so_far t b ends) refl
 
-word_done : (before : Before) (c : Command) (role : Role) (so_far : List ℕ) → rest_of (in_word before c role Bare so_far) [] ≡ rest_of (within before (put c role so_far)) []
+word_done : (before : Before) (c : Command) (role : Role) (so_far : List ℕ)
+    → rest_of (in_word before c role Bare so_far) [] ≡ rest_of (within before (put c role so_far)) []
 unfolding word_from
 word_done before c role so_far = refl
 
@@ -133,15 +138,17 @@ word_in : (b : ℕ) (t : List ℕ) → ends_word b ≡ false → word_at (b ∷ 
 unfolding word_at
 word_in b t goes = rw goes refl
 
-target_in : (before : Before) (c : Command) (role : Role) (b : ℕ) (t : List ℕ) → ends_word b ≡ false → rest_of (at_target before c role) (b ∷ t) ≡ rest_of (in_word before c role Bare []) (b ∷ t)
+target_in : (before : Before) (c : Command) (role : Role) (b : ℕ) (t : List ℕ) → ends_word b ≡ false
+    → rest_of (at_target before c role) (b ∷ t) ≡ rest_of (in_word before c role Bare []) (b ∷ t)
 unfolding target_at
 target_in before c role b t goes = rw (other_stays b t (no_blank b goes), word_in b t goes) refl
 
-target_blank : (before : Before) (c : Command) (role : Role) (b : ℕ) (t : List ℕ) → is_blank b ≡ true → rest_of (at_target before c role) (b ∷ t) ≡ rest_of (at_target before c role) t
+target_blank : (before : Before) (c : Command) (role : Role) (b : ℕ) (t : List ℕ) → is_blank b ≡ true
+    → rest_of (at_target before c role) (b ∷ t) ≡ rest_of (at_target before c role) t
 unfolding target_at
 target_blank before c role b t is = rw (blank_skipped b t is) refl
 
-no_target : (b : ℕ) (t : List ℕ) → is_blank b ≡ false → ends_word b ≡ true → target_at (b ∷ t) ≡ Err (length (b ∷ t))
+no_target : (b : ℕ) (t : List ℕ) → is_blank b ≡ false → ends_word b ≡ true → target_at (b ∷ t) ≡ Err (stop_at (b ∷ t))
 unfolding target_at word_at
 no_target b t other ends = rw (other_stays b t other, ends) refl
 
@@ -154,11 +161,13 @@ target_moves before c role b = elim (cases_Bool (ends_word b)) [
   ]
 ]
 
-output_is : (before : Before) (c : Command) (append : Bool) (t : List ℕ) → (output_at c append t >>= items_on before) ≡ rest_of (at_target before c (as_output append)) t
+output_is : (before : Before) (c : Command) (append : Bool) (t : List ℕ)
+    → (output_at c append t >>= items_on before) ≡ rest_of (at_target before c (as_output append)) t
 unfolding output_at
 output_is before c append t = then_assoc (target_at t) (λ target. Ok (record c { output = Some target.0; append = append }, target.1)) (items_on before)
 
-mark_in : (before : Before) (c : Command) (b : ℕ) (t : List ℕ) → eqb b 62 ≡ false → rest_of (at_mark before c) (b ∷ t) ≡ rest_of (at_target before c (as_output false)) (b ∷ t)
+mark_in : (before : Before) (c : Command) (b : ℕ) (t : List ℕ) → eqb b 62 ≡ false
+    → rest_of (at_mark before c) (b ∷ t) ≡ rest_of (at_target before c (as_output false)) (b ∷ t)
 mark_in before c b t other = rw other (output_is before c false (b ∷ t))
 
 mark_moves : (before : Before) (c : Command) (b : ℕ) → Moves (rest_of (at_mark before c)) b
@@ -174,25 +183,29 @@ unfolding commands_within
 commands_are zero commands bytes = refl
 commands_are (suc more) commands bytes = refl
 
-command_is : (bytes : List ℕ) → command_at bytes ≡ (items_from no_items bytes >>= checked)
+command_is : (bytes : List ℕ) → command_at bytes ≡ (items_from no_items bytes >>= command_check)
 unfolding command_at
 command_is bytes = rw (items_at_from bytes) refl
 
 -- a command after others, in the words of the states
-next_is : (jobs : List Job) (commands : List Command) (more : ℕ) (t : List ℕ) → (commands_within more commands t >>= after_commands jobs) ≡ rest_of (within (record { jobs = jobs; commands = commands; more = more }) no_items) t
+next_is : (jobs : List Job) (commands : List Command) (more : ℕ) (t : List ℕ)
+    → (commands_within more commands t >>= after_commands jobs) ≡ rest_of (within (record { jobs = jobs; commands = commands; more = more }) no_items) t
 next_is jobs commands more t =
-    ap (λ (r : Result (List Command × List ℕ) ℕ). r >>= after_commands jobs) (commands_are more commands t ∙ ap (λ (r : Result (Command × List ℕ) ℕ). r >>= after_command more commands) (command_is t))
-    ∙ ap (λ (r : Result (List Command × List ℕ) ℕ). r >>= after_commands jobs) (then_assoc (items_from no_items t) checked (after_command more commands))
-    ∙ then_assoc (items_from no_items t) (λ read. checked read >>= after_command more commands) (after_commands jobs)
+    ap (λ (r : Result (List Command × List ℕ) Stop). r >>= after_commands jobs)
+    (commands_are more commands t ∙ ap (λ (r : Result (Command × List ℕ) Stop). r >>= after_command more commands) (command_is t))
+    ∙ ap (λ (r : Result (List Command × List ℕ) Stop). r >>= after_commands jobs)
+    (then_assoc (items_from no_items t) command_check (after_command more commands))
+    ∙ then_assoc (items_from no_items t) (λ read. command_check read >>= after_command more commands) (after_commands jobs)
 
-checked_some : (c : Command) (rest : List ℕ) → eqb (length c.words) 0 ≡ false → checked (c, rest) ≡ Ok (c, rest)
+checked_some : (c : Command) (rest : List ℕ) → eqb (length c.words) 0 ≡ false → command_check (c, rest) ≡ Ok (c, rest)
 checked_some c rest some = rw some refl
 
-checked_none : (c : Command) (rest : List ℕ) → eqb (length c.words) 0 ≡ true → checked (c, rest) ≡ Err (length rest)
+checked_none : (c : Command) (rest : List ℕ) → eqb (length c.words) 0 ≡ true → command_check (c, rest) ≡ Err (stop_at rest)
 checked_none c rest none = rw none refl
 
 -- behind the last command of a job
-ends_command : (more : ℕ) (commands : List Command) (c : Command) (rest : List ℕ) → begins 124 rest ≡ false → after_command more commands (c, rest) ≡ Ok (commands ++ c ∷ [], rest)
+ends_command : (more : ℕ) (commands : List Command) (c : Command) (rest : List ℕ) → begins 124 rest ≡ false
+    → after_command more commands (c, rest) ≡ Ok (commands ++ c ∷ [], rest)
 ends_command zero commands c rest none = refl
 ends_command (suc more) commands c rest none = rw none refl
 
@@ -209,17 +222,22 @@ ending_moves jobs commands b = elim (cases_Bool (eqb b 59)) [
   ]
 ]
 
-after_moves : (jobs : List Job) (commands : List Command) (more : ℕ) (c : Command) (b : ℕ) → Moves (λ rest. after_command more commands (c, rest) >>= after_commands jobs) b
+after_moves : (jobs : List Job) (commands : List Command) (more : ℕ) (c : Command) (b : ℕ)
+    → Moves (λ rest. after_command more commands (c, rest) >>= after_commands jobs) b
 after_moves jobs commands zero c b = ending_moves jobs (commands ++ c ∷ []) b
 after_moves jobs commands (suc more) c b = elim (cases_Bool (eqb b 124)) [
-  | inl bar ↦ goes_to _ b (within (record { jobs = jobs; commands = commands ++ c ∷ []; more = more }) no_items) (λ t. rw bar (next_is jobs (commands ++ c ∷ []) more t))
+  | inl bar ↦
+      goes_to _ b (within (record { jobs = jobs; commands = commands ++ c ∷ []; more = more }) no_items)
+      (λ t. rw bar (next_is jobs (commands ++ c ∷ []) more t))
   | inr none ↦ moves_same _ (λ rest. after_commands jobs (commands ++ c ∷ [], rest)) b (λ t. rw none refl) (ending_moves jobs (commands ++ c ∷ []) b)
 ]
 
 items_end : (before : Before) (c : Command) (b : ℕ) → Moves (λ rest. after_items before (c, rest)) b
 items_end before c b = elim (cases_Bool (eqb (length c.words) 0)) [
   | inl none ↦ stops_at _ b (λ t. rw (checked_none c (b ∷ t) none) refl)
-  | inr some ↦ moves_same _ (λ rest. after_command before.more before.commands (c, rest) >>= after_commands before.jobs) b (λ t. rw (checked_some c (b ∷ t) some) refl) (after_moves before.jobs before.commands before.more c b)
+  | inr some ↦
+      moves_same _ (λ rest. after_command before.more before.commands (c, rest) >>= after_commands before.jobs) b (λ t. rw (checked_some c (b ∷ t) some) refl)
+      (after_moves before.jobs before.commands before.more c b)
 ]
 
 -- between a command's items
@@ -227,26 +245,32 @@ items_end before c b = elim (cases_Bool (eqb (length c.words) 0)) [
 within_blank : (before : Before) (c : Command) (b : ℕ) (t : List ℕ) → is_blank b ≡ true → rest_of (within before c) (b ∷ t) ≡ rest_of (within before c) t
 within_blank before c b t is = rw (items_same c (b ∷ t) t (blank_skipped b t is)) refl
 
-within_none : (before : Before) (c : Command) (b : ℕ) (t : List ℕ) → is_blank b ≡ false → begins_item c (b ∷ t) ≡ false → rest_of (within before c) (b ∷ t) ≡ after_items before (c, b ∷ t)
+within_none : (before : Before) (c : Command) (b : ℕ) (t : List ℕ) → is_blank b ≡ false → begins_item c (b ∷ t) ≡ false
+    → rest_of (within before c) (b ∷ t) ≡ after_items before (c, b ∷ t)
 within_none before c b t other none =
     let stays = other_stays b t other in
     let read : items_from c (b ∷ t) ≡ Ok (c, b ∷ t) = items_none c (b ∷ t) (ap (begins_item c) stays ∙ none) ∙ ap (λ (rest : List ℕ). Ok (c, rest)) stays in
     rw read refl
 
-within_item : (before : Before) (c : Command) (b : ℕ) (t : List ℕ) → is_blank b ≡ false → begins_item c (b ∷ t) ≡ true → rest_of (within before c) (b ∷ t) ≡ (item_at c (b ∷ t) >>= items_on before)
+within_item : (before : Before) (c : Command) (b : ℕ) (t : List ℕ) → is_blank b ≡ false → begins_item c (b ∷ t) ≡ true
+    → rest_of (within before c) (b ∷ t) ≡ (item_at c (b ∷ t) >>= items_on before)
 within_item before c b t other begun =
     let stays = other_stays b t other in
     let read : items_from c (b ∷ t) ≡ (item_at c (b ∷ t) >>= λ longer. items_from longer.0 longer.1) =
     items_step c (b ∷ t) (ap (begins_item c) stays ∙ begun) ∙ ap (λ (rest : List ℕ). item_at c rest >>= λ longer. items_from longer.0 longer.1) stays in
-    ap (λ (r : Result (Command × List ℕ) ℕ). r >>= after_items before) read
+    ap (λ (r : Result (Command × List ℕ) Stop). r >>= after_items before) read
     ∙ then_assoc (item_at c (b ∷ t)) (λ longer. items_from longer.0 longer.1) (after_items before)
 
-within_word : (before : Before) (c : Command) (b : ℕ) (t : List ℕ) → ends_word b ≡ false → eqb b 60 ≡ false → eqb b 62 ≡ false → rest_of (within before c) (b ∷ t) ≡ rest_of (in_word before c as_word Bare []) (b ∷ t)
+within_word : (before : Before) (c : Command) (b : ℕ) (t : List ℕ) → ends_word b ≡ false → eqb b 60 ≡ false → eqb b 62 ≡ false
+    → rest_of (within before c) (b ∷ t) ≡ rest_of (in_word before c as_word Bare []) (b ∷ t)
 within_word before c b t goes no_input no_output =
-    within_item before c b t (no_blank b goes) (third (eqb b 60) (eqb b 62) (is_none c.input) (is_none c.output) (not (ends_word b)) no_input no_output ∙ ap not goes)
-    ∙ rw (at_word c t b no_input no_output, word_in b t goes) (then_assoc (word_from Bare [] (b ∷ t)) (λ word. Ok (record c { words = c.words ++ word.0 ∷ [] }, word.1)) (items_on before))
+    within_item before c b t (no_blank b goes)
+    (third (eqb b 60) (eqb b 62) (is_none c.input) (is_none c.output) (not (ends_word b)) no_input no_output ∙ ap not goes)
+    ∙ rw (at_word c t b no_input no_output, word_in b t goes)
+    (then_assoc (word_from Bare [] (b ∷ t)) (λ word. Ok (record c { words = c.words ++ word.0 ∷ [] }, word.1)) (items_on before))
 
-within_input : (before : Before) (c : Command) (b : ℕ) (t : List ℕ) → eqb b 60 ≡ true → is_none c.input ≡ true → rest_of (within before c) (b ∷ t) ≡ rest_of (at_target before c as_input) t
+within_input : (before : Before) (c : Command) (b : ℕ) (t : List ℕ) → eqb b 60 ≡ true → is_none c.input ≡ true
+    → rest_of (within before c) (b ∷ t) ≡ rest_of (at_target before c as_input) t
 within_input before c b t is can =
     within_item before c b t (ap is_blank (eqb-true b 60 is)) (rw is can)
     ∙ rw (at_input c t b is) (then_assoc (target_at t) (λ target. Ok (record c { input = Some target.0 }, target.1)) (items_on before))
@@ -257,10 +281,11 @@ output_item c b t no_input is = elim (cases_Bool (begins 62 t)) [
   | inr once ↦ rw (at_output c t b no_input is once, once) refl
 ]
 
-within_output : (before : Before) (c : Command) (b : ℕ) (t : List ℕ) → eqb b 60 ≡ false → eqb b 62 ≡ true → is_none c.output ≡ true → rest_of (within before c) (b ∷ t) ≡ rest_of (at_mark before c) t
+within_output : (before : Before) (c : Command) (b : ℕ) (t : List ℕ) → eqb b 60 ≡ false → eqb b 62 ≡ true → is_none c.output ≡ true
+    → rest_of (within before c) (b ∷ t) ≡ rest_of (at_mark before c) t
 within_output before c b t no_input is can =
     within_item before c b t (ap is_blank (eqb-true b 62 is)) (rw (no_input, is) can)
-    ∙ ap (λ (r : Result (Command × List ℕ) ℕ). r >>= items_on before) (output_item c b t no_input is)
+    ∙ ap (λ (r : Result (Command × List ℕ) Stop). r >>= items_on before) (output_item c b t no_input is)
 
 within_moves : (before : Before) (c : Command) (b : ℕ) → Moves (rest_of (within before c)) b
 within_moves before c b = elim (cases_Bool (is_blank b)) [
@@ -273,11 +298,18 @@ within_moves before c b = elim (cases_Bool (is_blank b)) [
     | inr no_input ↦ elim (cases_Bool (eqb b 62)) [
       | inl is ↦ elim (cases_Bool (is_none c.output)) [
         | inl can ↦ goes_to _ b (at_mark before c) (λ t. within_output before c b t no_input is can)
-        | inr second ↦ moves_same _ (λ rest. after_items before (c, rest)) b (λ t. within_none before c b t other (rw (no_input, is) second)) (items_end before c b)
+        | inr second ↦
+            moves_same _ (λ rest. after_items before (c, rest)) b (λ t. within_none before c b t other (rw (no_input, is) second)) (items_end before c b)
       ]
       | inr no_output ↦ elim (cases_Bool (ends_word b)) [
-        | inl ends ↦ moves_same _ (λ rest. after_items before (c, rest)) b (λ t. within_none before c b t other (third (eqb b 60) (eqb b 62) (is_none c.input) (is_none c.output) (not (ends_word b)) no_input no_output ∙ ap not ends)) (items_end before c b)
-        | inr goes ↦ moves_same _ (rest_of (in_word before c as_word Bare [])) b (λ t. within_word before c b t goes no_input no_output) (word_moves before c as_word [] b goes)
+        | inl ends ↦
+            moves_same _ (λ rest. after_items before (c, rest)) b
+            (λ t. within_none before c b t other
+            (third (eqb b 60) (eqb b 62) (is_none c.input) (is_none c.output) (not (ends_word b)) no_input no_output ∙ ap not ends))
+            (items_end before c b)
+        | inr goes ↦
+            moves_same _ (rest_of (in_word before c as_word Bare [])) b (λ t. within_word before c b t goes no_input no_output)
+            (word_moves before c as_word [] b goes)
       ]
     ]
   ]
@@ -288,14 +320,15 @@ within_moves before c b = elim (cases_Bool (is_blank b)) [
 abbrev first_of : List Job → Before
 first_of jobs = record { jobs = jobs; commands = []; more = MOST_COMMANDS - 1 }
 
-abbrev ended_as : List Command → Bool × List ℕ → Result (Job × List ℕ) ℕ
-ended_as commands ending = Ok (job_of commands ending.0, ending.1)
+abbrev end_with : List Command → Bool × List ℕ → Result (Job × List ℕ) Stop
+end_with commands ending = Ok (job_of commands ending.0, ending.1)
 
 job_is : (jobs : List Job) (bytes : List ℕ) → (job_at bytes >>= λ job. jobs_from (jobs ++ job.0 ∷ []) job.1) ≡ rest_of (within (first_of jobs) no_items) bytes
 unfolding job_at commands_at
 job_is jobs bytes =
-    then_assoc (commands_within (MOST_COMMANDS - 1) [] bytes) (λ read. ending_at read.1 >>= ended_as read.0) (λ job. jobs_from (jobs ++ job.0 ∷ []) job.1)
-    ∙ alike (commands_within (MOST_COMMANDS - 1) [] bytes) (λ read. (ending_at read.1 >>= ended_as read.0) >>= λ job. jobs_from (jobs ++ job.0 ∷ []) job.1) (after_commands jobs) (λ read e. then_assoc (ending_at read.1) (ended_as read.0) (λ job. jobs_from (jobs ++ job.0 ∷ []) job.1))
+    then_assoc (commands_within (MOST_COMMANDS - 1) [] bytes) (λ read. ending_at read.1 >>= end_with read.0) (λ job. jobs_from (jobs ++ job.0 ∷ []) job.1)
+    ∙ alike (commands_within (MOST_COMMANDS - 1) [] bytes) (λ read. (ending_at read.1 >>= end_with read.0) >>= λ job. jobs_from (jobs ++ job.0 ∷ []) job.1)
+    (after_commands jobs) (λ read e. then_assoc (ending_at read.1) (end_with read.0) (λ job. jobs_from (jobs ++ job.0 ∷ []) job.1))
     ∙ next_is jobs [] (MOST_COMMANDS - 1) bytes
 
 between_job : (jobs : List Job) (b : ℕ) (t : List ℕ) → is_blank b ≡ false → rest_of (between jobs) (b ∷ t) ≡ rest_of (within (first_of jobs) no_items) (b ∷ t)
@@ -314,26 +347,29 @@ moves (between jobs) b = between_moves jobs b
 moves (within before c) b = within_moves before c b
 moves (at_mark before c) b = mark_moves before c b
 moves (at_target before c role) b = target_moves before c role b
-moves (in_word before c role Quoted so_far) b = quoted_moves before c role so_far b
-moves (in_word before c role Escaped so_far) b = escaped_moves before c role so_far b
+moves (in_word before c role InQuotes so_far) b = quoted_moves before c role so_far b
+moves (in_word before c role BehindBackslash so_far) b = escaped_moves before c role so_far b
 moves (in_word before c role Bare so_far) b = elim (cases_Bool (ends_word b)) [
-  | inl ends ↦ moves_same _ (rest_of (within before (put c role so_far))) b (λ t. word_out before c role so_far b t ends) (within_moves before (put c role so_far) b)
+  | inl ends ↦
+      moves_same _ (rest_of (within before (put c role so_far))) b (λ t. word_out before c role so_far b t ends) (within_moves before (put c role so_far) b)
   | inr goes ↦ word_moves before c role so_far b goes
 ]
 
 -- at the end of the bytes
 
-Ends : Result (List Job) ℕ → Type 0
-Ends read = ((jobs : List Job) × (read ≡ Ok jobs)) ⊎ (read ≡ Err 0)
+Ends : Result (List Job) Stop → Type 0
+Ends read = ((jobs : List Job) × (read ≡ Ok jobs)) ⊎ (read ≡ Err (stop_at []))
 
 within_end : (before : Before) (c : Command) → rest_of (within before c) [] ≡ after_items before (c, [])
 within_end before c = rw (items_none c [] refl) refl
 
 -- a job's commands at the end of the bytes
-job_done : (before : Before) (c : Command) → eqb (length c.words) 0 ≡ false → rest_of (within before c) [] ≡ Ok (before.jobs ++ job_of (before.commands ++ c ∷ []) false ∷ [])
+job_done : (before : Before) (c : Command) → eqb (length c.words) 0 ≡ false
+    → rest_of (within before c) [] ≡ Ok (before.jobs ++ job_of (before.commands ++ c ∷ []) false ∷ [])
 job_done before c some =
     within_end before c
-    ∙ rw (checked_some c [] some, ends_command before.more before.commands c [] refl) (jobs_none (before.jobs ++ job_of (before.commands ++ c ∷ []) false ∷ []) [] refl)
+    ∙ rw (checked_some c [] some, ends_command before.more before.commands c [] refl)
+    (jobs_none (before.jobs ++ job_of (before.commands ++ c ∷ []) false ∷ []) [] refl)
 
 within_ends : (before : Before) (c : Command) → Ends (rest_of (within before c) [])
 unfolding Ends
@@ -342,7 +378,7 @@ within_ends before c = elim (cases_Bool (eqb (length c.words) 0)) [
   | inr some ↦ inl (before.jobs ++ job_of (before.commands ++ c ∷ []) false ∷ [], job_done before c some)
 ]
 
-no_target_left : (before : Before) (c : Command) (role : Role) → rest_of (at_target before c role) [] ≡ Err 0
+no_target_left : (before : Before) (c : Command) (role : Role) → rest_of (at_target before c role) [] ≡ Err (stop_at [])
 unfolding target_at word_at
 no_target_left before c role = refl
 
@@ -353,8 +389,8 @@ ends (within before c) = within_ends before c
 ends (at_mark before c) = inr (output_is before c false [] ∙ no_target_left before c (as_output false))
 ends (at_target before c role) = inr (no_target_left before c role)
 ends (in_word before c role Bare so_far) = within_ends before (put c role so_far)
-ends (in_word before c role Quoted so_far) = inr refl
-ends (in_word before c role Escaped so_far) = inr refl
+ends (in_word before c role InQuotes so_far) = inr refl
+ends (in_word before c role BehindBackslash so_far) = inr refl
 
 -- from each state a line can be completed
 
@@ -371,7 +407,8 @@ unfolding Completes
 by_word before c =
     let with = put c as_word (codes "a") in (
       before.jobs ++ job_of (before.commands ++ with ∷ []) false ∷ [],
-      within_word before c 97 [] refl refl refl ∙ rw (at_bare [] [] 97 refl refl refl) (word_done before c as_word (codes "a") ∙ job_done before with (push_some c.words (codes "a"))),
+      within_word before c 97 [] refl refl refl
+          ∙ rw (at_bare [] [] 97 refl refl refl) (word_done before c as_word (codes "a") ∙ job_done before with (push_some c.words (codes "a"))),
     )
 
 -- by a blank and a word, where a word can end
@@ -406,8 +443,10 @@ completes (within before c) = (codes "a", one_byte, by_word before c)
 completes (at_mark before c) = let w = by_target before c (as_output false) in (codes "a a", three_bytes, (w.0, mark_in before c 97 (codes " a") refl ∙ w.1))
 completes (at_target before c role) = (codes "a a", three_bytes, by_target before c role)
 completes (in_word before c role Bare so_far) = (codes " a", two_bytes, by_blank before c role so_far)
-completes (in_word before c role Quoted so_far) = let w = by_blank before c role so_far in (codes "' a", close_bytes, (w.0, rw (at_close so_far (codes " a") 39 refl) w.1))
-completes (in_word before c role Escaped so_far) = let w = by_blank before c role (so_far ++ codes "a") in (codes "a a", three_bytes, (w.0, rw (at_escaped so_far (codes " a") 97) w.1))
+completes (in_word before c role InQuotes so_far) =
+    let w = by_blank before c role so_far in (codes "' a", close_bytes, (w.0, rw (at_close so_far (codes " a") 39 refl) w.1))
+completes (in_word before c role BehindBackslash so_far) =
+    let w = by_blank before c role (so_far ++ codes "a") in (codes "a a", three_bytes, (w.0, rw (at_escaped so_far (codes " a") 97) w.1))
 
 -- a fault: after the front a line can be completed, and after the front and the byte at the fault none
 
@@ -416,41 +455,50 @@ SameFirst [] ys = ⊥
 SameFirst (x ∷ xs) [] = ⊥
 SameFirst (x ∷ xs) (y ∷ ys) = x ≡ y
 
-pub record Failed (read : List ℕ → Result (List Job) ℕ) (bytes : List ℕ) (left : ℕ) : Type 0 where
+pub record FaultPlace (read : List ℕ → Result (List Job) Stop) (bytes : List ℕ) (stop : Stop) : Type 0 where
   pub front : List ℕ
   pub rest : List ℕ
   pub parts : bytes ≡ front ++ rest
-  pub place : left ≡ length rest
+  pub place : stop ≡ stop_at rest
   pub alive : (more : List ℕ) × AreBytes more × (jobs : List Job) × (read (front ++ more) ≡ Ok jobs)
-  pub dead : (other : List ℕ) → SameFirst rest other → (l : ℕ) × (read (front ++ other) ≡ Err l)
+  pub dead : (other : List ℕ) → SameFirst rest other → (l : Stop) × (read (front ++ other) ≡ Err l)
 
-abbrev bad : ℕ → Result (List Job) ℕ
-bad s = Err s
+abbrev err_of : Stop → Result (List Job) Stop
+err_of s = Err s
 
-err_is : (s left : ℕ) → bad s ≡ bad left → s ≡ left
-err_is s left e = cc
+err_is : (s stop : Stop) → err_of s ≡ err_of stop → s ≡ stop
+err_is s stop e = cc
 
-fails_end : (s : State) (left : ℕ) → rest_of s [] ≡ Err left → Failed (rest_of s) [] left
+fails_end : (s : State) (stop : Stop) → rest_of s [] ≡ Err stop → FaultPlace (rest_of s) [] stop
 unfolding Completes Ends
-fails_end s left e = elim (ends s) [
-  | inl ok ↦ err_not_ok left ok.0 (sym e ∙ ok.1)
+fails_end s stop e = elim (ends s) [
+  | inl ok ↦ err_not_ok stop ok.0 (sym e ∙ ok.1)
   | inr fault ↦
       let w = completes s in
-      record { front = []; rest = []; parts = refl; place = err_is left 0 (sym e ∙ fault); alive = (w.0, w.1, w.2.0, w.2.1); dead = λ other same. absurd same }
+      record {
+        front = [];
+        rest = [];
+        parts = refl;
+        place = err_is stop (stop_at []) (sym e ∙ fault);
+        alive = (w.0, w.1, w.2.0, w.2.1);
+        dead = λ other same. absurd same;
+      }
 ]
 
-fails_there : (s : State) (b : ℕ) (t : List ℕ) (left : ℕ) → ((t : List ℕ) → rest_of s (b ∷ t) ≡ Err (length (b ∷ t))) → rest_of s (b ∷ t) ≡ Err left → Failed (rest_of s) (b ∷ t) left
+fails_there : (s : State) (b : ℕ) (t : List ℕ) (stop : Stop) → ((t : List ℕ) → rest_of s (b ∷ t) ≡ Err (stop_at (b ∷ t))) → rest_of s (b ∷ t) ≡ Err stop
+    → FaultPlace (rest_of s) (b ∷ t) stop
 unfolding Completes
-fails_there s b t left stops e =
+fails_there s b t stop stops e =
     let w = completes s in
-    record { front = []; rest = b ∷ t; parts = refl; place = err_is left (length (b ∷ t)) (sym e ∙ stops t); alive = (w.0, w.1, w.2.0, w.2.1); dead = dead }
+    record { front = []; rest = b ∷ t; parts = refl; place = err_is stop (stop_at (b ∷ t)) (sym e ∙ stops t); alive = (w.0, w.1, w.2.0, w.2.1); dead = dead }
   where
-    dead : (other : List ℕ) → SameFirst (b ∷ t) other → (l : ℕ) × (rest_of s other ≡ Err l)
+    dead : (other : List ℕ) → SameFirst (b ∷ t) other → (l : Stop) × (rest_of s other ≡ Err l)
     dead [] same = absurd same
-    dead (c ∷ other) same = rw (← same) (length (b ∷ other), stops other)
+    dead (c ∷ other) same = rw (← same) (stop_at (b ∷ other), stops other)
 
-fails_later : (s next : State) (b : ℕ) (t : List ℕ) (left : ℕ) → ((t : List ℕ) → rest_of s (b ∷ t) ≡ rest_of next t) → Failed (rest_of next) t left → Failed (rest_of s) (b ∷ t) left
-fails_later s next b t left goes f = record {
+fails_later : (s next : State) (b : ℕ) (t : List ℕ) (stop : Stop) → ((t : List ℕ) → rest_of s (b ∷ t) ≡ rest_of next t) → FaultPlace (rest_of next) t stop
+    → FaultPlace (rest_of s) (b ∷ t) stop
+fails_later s next b t stop goes f = record {
   front = b ∷ f.front;
   rest = f.rest;
   parts = ap (λ (r : List ℕ). b ∷ r) f.parts;
@@ -459,13 +507,13 @@ fails_later s next b t left goes f = record {
   dead = λ other same. let d = f.dead other same in (d.0, goes (f.front ++ other) ∙ d.1);
 }
 
-fails : (bytes : List ℕ) (s : State) (left : ℕ) → rest_of s bytes ≡ Err left → Failed (rest_of s) bytes left
+fails : (bytes : List ℕ) (s : State) (stop : Stop) → rest_of s bytes ≡ Err stop → FaultPlace (rest_of s) bytes stop
 unfolding Moves
-fails [] s left e = fails_end s left e
-fails (b ∷ t) s left e = elim (moves s b) [
-  | inl goes ↦ fails_later s goes.0 b t left goes.1 (fails t goes.0 left (sym (goes.1 t) ∙ e))
-  | inr stops ↦ fails_there s b t left stops e
+fails [] s stop e = fails_end s stop e
+fails (b ∷ t) s stop e = elim (moves s b) [
+  | inl goes ↦ fails_later s goes.0 b t stop goes.1 (fails t goes.0 stop (sym (goes.1 t) ∙ e))
+  | inr stops ↦ fails_there s b t stop stops e
 ]
 
-pub line_fails : (text : List ℕ) (left : ℕ) → jobs_from [] text ≡ Err left → Failed (jobs_from []) text left
-line_fails text left e = fails text (between []) left e
+pub line_fails : (text : List ℕ) (stop : Stop) → jobs_from [] text ≡ Err stop → FaultPlace (jobs_from []) text stop
+line_fails text stop e = fails text (between []) stop e
