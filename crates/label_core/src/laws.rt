@@ -1,7 +1,9 @@
 //! Laws of labels, which the check proves. Each is the contract of a function that does nothing.
-#![tactic(auto, using(crate::proofs::Dominance::dominance, crate::proofs::TextLaws::texts))]
+#![tactic(auto, using(crate::proofs::Dominance::dominance, crate::proofs::TextLemmas::texts))]
 
 ghost use Rattle.std.specs.Prelude.{◌≡◌, ◌≢◌, ◌==◌, ◌||◌, ◌↔◌, ℕ, List, length, IsTrue};
+ghost use Rattle.label_core.specs.declared.comp_set.TheConstants.{COMPARTMENTS};
+ghost use Rattle.label_core.specs.declared.printing.TheConstants.{TEXT_ROOM, ELEMENT_ROOM, LABEL_ROOM};
 ghost use Rattle.label_core.specs.declared.element.Element.{Element};
 ghost use Rattle.label_core.specs.declared.fault.LabelFault.{LabelFault};
 ghost use Rattle.label_core.specs.declared.fault.LabelKind.{LabelKind};
@@ -17,7 +19,7 @@ ghost use Rattle.label_core.specs.Faults.{BeginsElement, BeginsParts, IsFirstFau
 /// exactly where it is that one or was in it before, a set is a subset exactly where each number of
 /// it is in the other, and two sets with the same numbers are one.
 pub fn sets_are_their_numbers()
-    ensures given { (n m : ℕ) (set : List ℕ) → has_number n (with_number m set) ≡ ((n == m) || has_number n set) }
+    ensures member { (n m : ℕ) (set : List ℕ) → has_number n (with_number m set) ≡ ((n == m) || has_number n set) }
     ensures subset { (some all : List ℕ) → IsTrue (is_subset some all)
         ↔ ((n : ℕ) → IsTrue (has_number n some) → IsTrue (has_number n all)) }
     ensures same { (s t : List ℕ) → IsCompSet s → IsCompSet t
@@ -86,4 +88,12 @@ pub fn subject_faults_are_first()
         → (f.kind ≡ LabelKind.Range) ↔ SpellsNoSubject text }
     ensures range_place { (text : List ℕ) (f : LabelFault) → subject_of text ≡ Err f → f.kind ≡ LabelKind.Range
         → f.at ≡ length text }
+{}
+
+/// The figures of the limits: compartments, and bytes of texts.
+pub fn limits()
+    ensures compartments { COMPARTMENTS ≡ 256 }
+    ensures text { TEXT_ROOM ≡ 4096 }
+    ensures element { ELEMENT_ROOM ≡ 925 }
+    ensures label { LABEL_ROOM ≡ 2800 }
 {}

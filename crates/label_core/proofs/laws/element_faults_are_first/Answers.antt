@@ -1,4 +1,4 @@
-use Rattle.label_core.proofs.FirstFaults.{element_of_fault}
+use Rattle.label_core.proofs.FirstFaultLemmas.{element_of_fault}
 use Rattle.label_core.proofs.laws.element_faults_are_first.Goals as goal
 
 pub returns : goal.returns

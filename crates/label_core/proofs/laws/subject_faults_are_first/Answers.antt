@@ -1,4 +1,4 @@
-use Rattle.label_core.proofs.FirstFaults.{subject_of_fault, subject_of_range, subject_of_range_place}
+use Rattle.label_core.proofs.FirstFaultLemmas.{subject_of_fault, subject_of_range, subject_of_range_place}
 use Rattle.label_core.proofs.laws.subject_faults_are_first.Goals as goal
 
 pub returns : goal.returns

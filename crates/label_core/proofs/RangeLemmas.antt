@@ -44,13 +44,15 @@ with_number-filter_above p a zero n below = refl
 with_number-filter_above p a (suc k) n below = grind (arith, nat_tests, with_number-filter_above p (a + 1) k n)
 
 -- a number of the range that is put into the set passes from then on
-pub with_number-filter : (p q : ℕ → Bool) (a k n : ℕ) → a ≤ n → n < a + k → ((m : ℕ) → a ≤ m → m < a + k → q m ≡ (eqb m n || p m)) → with_number n (filter p (range_with_len a k)) ≡ filter q (range_with_len a k)
+pub with_number-filter : (p q : ℕ → Bool) (a k n : ℕ) → a ≤ n → n < a + k → ((m : ℕ) → a ≤ m → m < a + k → q m ≡ (eqb m n || p m))
+    → with_number n (filter p (range_with_len a k)) ≡ filter q (range_with_len a k)
 with_number-filter p q a zero n low high more = absurd (omega arith)
 with_number-filter p q a (suc k) n low high more =
     let here : q a ≡ (eqb a n || p a) = more a (omega arith) (omega arith) in
     elim (cases_eq a n) [
       | inl e ↦
-          let rest : filter q (range_with_len (a + 1) k) ≡ filter p (range_with_len (a + 1) k) = filter_same p q (a + 1) k (λ m above below. more m (omega arith) (omega arith) ∙ ap (λ b. b || p m) (ne_eqb m n (omega arith))) in
+          let rest : filter q (range_with_len (a + 1) k) ≡ filter p (range_with_len (a + 1) k) =
+          filter_same p q (a + 1) k (λ m above below. more m (omega arith) (omega arith) ∙ ap (λ b. b || p m) (ne_eqb m n (omega arith))) in
           grind (arith, nat_tests, with_number-filter_above p (a + 1) k n)
       | inr ne ↦
           let rest = with_number-filter p q (a + 1) k n (omega arith) (omega arith) (λ m above below. more m (omega arith) (omega arith)) in
@@ -58,12 +60,14 @@ with_number-filter p q a (suc k) n low high more =
     ]
 
 -- what a subset says of each number of the range
-pub is_subset-filter : (p : ℕ → Bool) (set : List ℕ) (a k : ℕ) → is_subset (filter p (range_with_len a k)) set ≡ true → (n : ℕ) → a ≤ n → n < a + k → p n ≡ true → has_number n set ≡ true
+pub is_subset-filter : (p : ℕ → Bool) (set : List ℕ) (a k : ℕ) → is_subset (filter p (range_with_len a k)) set ≡ true → (n : ℕ) → a ≤ n → n < a + k → p n ≡ true
+    → has_number n set ≡ true
 is_subset-filter p set a zero sub n low high passes = absurd (omega arith)
 is_subset-filter p set a (suc k) sub n low high passes = grind (arith, nat_tests, is_subset-filter p set (a + 1) k)
 
 -- and what shows it
-pub filter-is_subset : (p : ℕ → Bool) (set : List ℕ) (a k : ℕ) → ((n : ℕ) → a ≤ n → n < a + k → p n ≡ true → has_number n set ≡ true) → is_subset (filter p (range_with_len a k)) set ≡ true
+pub filter-is_subset : (p : ℕ → Bool) (set : List ℕ) (a k : ℕ) → ((n : ℕ) → a ≤ n → n < a + k → p n ≡ true → has_number n set ≡ true)
+    → is_subset (filter p (range_with_len a k)) set ≡ true
 filter-is_subset p set a zero each = refl
 filter-is_subset p set a (suc k) each =
     let rest = filter-is_subset p set (a + 1) k (λ n low high. each n (omega arith) (omega arith)) in

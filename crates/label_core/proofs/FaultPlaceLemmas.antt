@@ -7,15 +7,16 @@ use Rattle.label_core.specs.declared.element.Element.{Element}
 use Rattle.label_core.specs.declared.element.Element.TheVariants.{Low, Equal, High, Grade}
 use Rattle.label_core.specs.declared.fault.LabelKind.{LabelKind}
 use Rattle.label_core.specs.declared.fault.LabelKind.TheVariants as kind
-use Rattle.label_core.specs.declared.reading.Stop.{Stop}
+use Rattle.label_core.specs.declared.fault.Stop.{Stop}
 use Rattle.label_core.specs.CompSet.{with_number}
 use Rattle.label_core.specs.Subject.{Parts}
 use Rattle.label_core.specs.Reading.{◌>>=◌, stop_at, begins, goes_on, after_literal, after_word, digits_at, number_at, compartments_at, grade_at, body_at, element_at, range_at, whole_element, whole_parts}
 use Rattle.label_core.specs.Grammar.{word_low}
-use Rattle.label_core.proofs.Readers.{begins_digit, number_takes}
-use Rattle.label_core.proofs.Lists.{alike, compartments_left, compartments_left_step, compartments_at_left}
-use Rattle.label_core.proofs.Rereading.{IsEnd, end_begins, end_digit, ne_43, digits_at_end, number_at-first, literal_again, body_again}
-use Rattle.label_core.proofs.Faults.{Reader, Completes, Local, Starts, then_read, local_then, local_fault_end, local_fault_byte, local_none_end, local_none_byte, local_none, local_cons, local_same}
+use Rattle.label_core.proofs.NumberLemmas.{begins_digit, number_takes}
+use Rattle.label_core.proofs.CompartmentLemmas.{compartments_left, compartments_left_step, compartments_at_left}
+use Rattle.label_core.proofs.RereadingLemmas.{IsEnd, end_begins, end_digit, ne_43, digits_at_end, number_at-first, literal_again, body_again}
+use Rattle.label_core.proofs.StepLemmas.{alike, then_assoc}
+use Rattle.label_core.proofs.LocalFaultLemmas.{Reader, Completes, Local, Starts, then_read, local_then, local_fault_end, local_fault_byte, local_none_end, local_none_byte, local_none, local_cons, local_same}
 
 form_is : kind.Form ≢ kind.Range
 form_is e = absurd cc
@@ -43,14 +44,22 @@ pub local_digits : (why : LabelKind) → why ≢ kind.Range → (most n : ℕ) (
 local_digits why other most n [] = local_none_end NoDigit (digits_at why most n) n refl (digits_at_end why most n)
 local_digits why other most n (d ∷ bytes) = elim (cases_Bool (is_ascii_digit d)) [
   | inl digit ↦ elim (cases_Bool (eqb n 0 || ltb most (n * 10 + (d - 48)))) [
-    | inl bad ↦ local_fault_byte NoDigit (digits_at why most n) why d bytes other (λ t. rw (digit, bad) refl) (record { more = []; value = n; again = digits_at_end why most n })
-    | inr good ↦ local_cons NoDigit (digits_at why most (n * 10 + (d - 48))) (digits_at why most n) d (λ t. rw (digit, good) refl) bytes (local_digits why other most (n * 10 + (d - 48)) bytes)
+    | inl bad ↦
+        local_fault_byte NoDigit (digits_at why most n) why d bytes other (λ t. rw (digit, bad) refl)
+        (record { more = []; value = n; again = digits_at_end why most n })
+    | inr good ↦
+        local_cons NoDigit (digits_at why most (n * 10 + (d - 48))) (digits_at why most n) d (λ t. rw (digit, good) refl) bytes
+        (local_digits why other most (n * 10 + (d - 48)) bytes)
   ]
   | inr none ↦ local_none_byte NoDigit (digits_at why most n) n d bytes (λ t. rw none refl) (digits_at_end why most n)
 ]
 
 number_whole : (why : LabelKind) (least most : ℕ) → least ≤ 1 → Completes NoDigit (number_at why least most) []
-number_whole why least most small = record { more = 49 ∷ []; value = 1; again = λ other none. number_at-first why least most 1 other small (omega arith) ∙ digits_at_end why most 1 other none }
+number_whole why least most small = record {
+  more = 49 ∷ [];
+  value = 1;
+  again = λ other none. number_at-first why least most 1 other small (omega arith) ∙ digits_at_end why most 1 other none;
+}
 
 pub local_number : (why : LabelKind) → why ≢ kind.Range → (least most : ℕ) (bytes : List ℕ) → least ≤ 1 → Local NoDigit (number_at why least most) bytes
 unfolding number_at
@@ -58,7 +67,9 @@ local_number why other least most [] small = local_fault_end NoDigit (number_at 
 local_number why other least most (d ∷ bytes) small = elim (cases_Bool (is_ascii_digit d)) [
   | inl digit ↦ elim (cases_Bool (ltb (d - 48) least)) [
     | inl less ↦ local_fault_byte NoDigit (number_at why least most) why d bytes other (λ t. rw (digit, less) refl) (number_whole why least most small)
-    | inr enough ↦ local_cons NoDigit (digits_at why most (d - 48)) (number_at why least most) d (λ t. rw (digit, enough) refl) bytes (local_digits why other most (d - 48) bytes)
+    | inr enough ↦
+        local_cons NoDigit (digits_at why most (d - 48)) (number_at why least most) d (λ t. rw (digit, enough) refl) bytes
+        (local_digits why other most (d - 48) bytes)
   ]
   | inr none ↦ local_fault_byte NoDigit (number_at why least most) kind.Form d bytes form_is (λ t. rw none refl) (number_whole why least most small)
 ]
@@ -77,14 +88,16 @@ after_compartment_end set n other end = rw (end_begins 43 other end (λ _. refl)
 after_compartment_starts : (set : List ℕ) (n : ℕ) → Starts NoDigit IsEnd (after_compartment set n)
 after_compartment_starts set n = record { text = []; value = with_number n set; ends = end_digit; again = after_compartment_end set n }
 
-local_after_compartment : (set : List ℕ) (n : ℕ) (rest : List ℕ) → ((b : ℕ) (t : List ℕ) → rest ≡ b ∷ t → Local IsEnd (compartments_left (with_number n set)) t) → Local IsEnd (after_compartment set n) rest
+local_after_compartment : (set : List ℕ) (n : ℕ) (rest : List ℕ) → ((b : ℕ) (t : List ℕ) → rest ≡ b ∷ t → Local IsEnd (compartments_left (with_number n set)) t)
+    → Local IsEnd (after_compartment set n) rest
 local_after_compartment set n [] list = local_none_end IsEnd (after_compartment set n) (with_number n set) refl (after_compartment_end set n)
 local_after_compartment set n (b ∷ rest) list = elim (cases_eq b 43) [
   | inl plus ↦ local_cons IsEnd (compartments_left (with_number n set)) (after_compartment set n) b (λ t. rw (eq-eqb b 43 plus) refl) rest (list b rest refl)
   | inr other ↦ local_none_byte IsEnd (after_compartment set n) (with_number n set) b rest (λ t. rw (ne_eqb b 43 other) refl) (after_compartment_end set n)
 ]
 
-local_list_step : (set bytes : List ℕ) → ((n : ℕ) (t : List ℕ) → length t < length bytes → Local IsEnd (compartments_left (with_number n set)) t) → Local IsEnd (compartments_left set) bytes
+local_list_step : (set bytes : List ℕ) → ((n : ℕ) (t : List ℕ) → length t < length bytes → Local IsEnd (compartments_left (with_number n set)) t)
+    → Local IsEnd (compartments_left set) bytes
 local_list_step set bytes others =
     local_same IsEnd (then_read (number_at kind.Compartment 1 256) (after_compartment set)) (compartments_left set) (compartments_left_step set) bytes
     (local_then NoDigit IsEnd (number_at kind.Compartment 1 256) (after_compartment set) (after_compartment_starts set) end_digit bytes
@@ -122,7 +135,9 @@ local_after_grade : (grade : ℕ) (rest : List ℕ) → Local IsEnd (after_grade
 unfolding list_of_grade
 local_after_grade grade [] = local_none_end IsEnd (after_grade grade) (Grade grade []) refl (after_grade_end grade)
 local_after_grade grade (b ∷ rest) = elim (cases_eq b 58) [
-  | inl colon ↦ local_cons IsEnd (list_of_grade grade) (after_grade grade) b (λ t. rw (eq-eqb b 58 colon, compartments_at_left t) refl) rest (local_list_of_grade grade rest)
+  | inl colon ↦
+      local_cons IsEnd (list_of_grade grade) (after_grade grade) b (λ t. rw (eq-eqb b 58 colon, compartments_at_left t) refl) rest
+      (local_list_of_grade grade rest)
   | inr other ↦ local_none_byte IsEnd (after_grade grade) (Grade grade []) b rest (λ t. rw (ne_eqb b 58 other) refl) (after_grade_end grade)
 ]
 
@@ -141,26 +156,26 @@ local_word_ending : (l : ℕ) (ls : List ℕ) (e : Element) (bytes : List ℕ) �
 local_word_ending l ls e [] letter = local_none_end IsEnd (word_ending (l ∷ ls) e) e refl (λ other end. word_ending_end l ls e other letter end)
 local_word_ending l ls e (b ∷ bytes) letter = elim (cases_eq b l) [
   | inl same ↦ local_cons IsEnd (literal e ls) (word_ending (l ∷ ls) e) b (λ t. rw (eq-eqb b l same) refl) bytes (local_literal IsEnd e ls bytes)
-  | inr other ↦ local_none_byte IsEnd (word_ending (l ∷ ls) e) e b bytes (λ t. rw (ne_eqb b l other) refl) (λ other end. word_ending_end l ls e other letter end)
+  | inr other ↦
+      local_none_byte IsEnd (word_ending (l ∷ ls) e) e b bytes (λ t. rw (ne_eqb b l other) refl) (λ other end. word_ending_end l ls e other letter end)
 ]
 
 -- any bytes may stand before what begins anywhere
 abbrev Any : List ℕ → Type 0
 Any other = Unit {0}
 
-then_literal : {A B : Type 0} (a : A) (r : Result (List ℕ) Stop) (f : List ℕ → Result B Stop) → ◌>>=◌ {A = A × List ℕ} (r >>= λ rest. Ok (a, rest)) (λ x. f x.1) ≡ (r >>= f)
+then_literal : {A B : Type 0} (a : A) (r : Result (List ℕ) Stop) (f : List ℕ → Result B Stop)
+    → ◌>>=◌ {A = A × List ℕ} (r >>= λ rest. Ok (a, rest)) (λ x. f x.1) ≡ (r >>= f)
 then_literal a (Ok rest) f = refl
 then_literal a (Err s) f = refl
-
-then_assoc : {A B C : Type 0} (r : Result A Stop) (f : A → Result B Stop) (g : B → Result C Stop) → ((r >>= f) >>= g) ≡ (r >>= λ x. f x >>= g)
-then_assoc (Ok x) f g = refl
-then_assoc (Err s) f g = refl
 
 local_word : (short : List ℕ) (l : ℕ) (ls : List ℕ) (e : Element) (bytes : List ℕ) → 48 ≤ l → Local IsEnd (word short (l ∷ ls) e) bytes
 unfolding after_word
 local_word short l ls e bytes letter =
     local_same IsEnd (then_read (literal (tt {0}) short) (λ _. word_ending (l ∷ ls) e)) (word short (l ∷ ls) e)
-    (λ t. then_assoc (after_literal short t) (λ rest. cond (goes_on (l ∷ ls) rest) (after_literal (l ∷ ls) rest) (Ok rest)) (λ rest. Ok (e, rest)) ∙ sym (then_literal (tt {0}) (after_literal short t) (word_ending (l ∷ ls) e))) bytes
+    (λ t. then_assoc (after_literal short t) (λ rest. cond (goes_on (l ∷ ls) rest) (after_literal (l ∷ ls) rest) (Ok rest)) (λ rest. Ok (e, rest))
+    ∙ sym (then_literal (tt {0}) (after_literal short t) (word_ending (l ∷ ls) e)))
+    bytes
     (local_then Any IsEnd (literal (tt {0}) short) (λ _. word_ending (l ∷ ls) e)
     (λ _. record { text = []; value = e; ends = λ other end. tt; again = λ other end. word_ending_end l ls e other letter end }) (λ other end. tt) bytes
     (local_literal Any (tt {0}) short bytes) (λ x given. local_word_ending l ls e x.1 letter))
@@ -174,28 +189,38 @@ body_starts : Starts Any IsEnd body_at
 body_starts = record { text = codes "low"; value = Low; ends = λ other end. tt; again = λ other end. body_again word_low other tt end }
 
 -- a grade whose first digit is this one
-graded : ℕ → Reader Element
-graded d = then_read (digits_at kind.Grade 65535 (d - 48)) after_grade
+grade_from : ℕ → Reader Element
+grade_from d = then_read (digits_at kind.Grade 65535 (d - 48)) after_grade
 
 grade_is : kind.Grade ≢ kind.Range
 grade_is e = absurd cc
 
-local_graded : (d : ℕ) (bytes : List ℕ) → Local IsEnd (graded d) bytes
-unfolding graded
-local_graded d bytes = local_then NoDigit IsEnd (digits_at kind.Grade 65535 (d - 48)) after_grade after_grade_starts end_digit bytes (local_digits kind.Grade grade_is 65535 (d - 48) bytes) (λ n e. local_after_grade n.0 n.1)
+local_grade_from : (d : ℕ) (bytes : List ℕ) → Local IsEnd (grade_from d) bytes
+unfolding grade_from
+local_grade_from d bytes =
+    local_then NoDigit IsEnd (digits_at kind.Grade 65535 (d - 48)) after_grade after_grade_starts end_digit bytes
+    (local_digits kind.Grade grade_is 65535 (d - 48) bytes) (λ n e. local_after_grade n.0 n.1)
 
 pub local_body : (bytes : List ℕ) → Local IsEnd body_at bytes
-unfolding body_at after_word grade_at number_at graded
+unfolding body_at after_word grade_at number_at grade_from
 local_body [] = local_fault_end IsEnd body_at kind.Form form_is refl body_whole
 local_body (b ∷ bytes) = elim (cases_eq b 108) [
   | inl l ↦ local_cons IsEnd (word (codes "o") (codes "w") Low) body_at b (λ t. rw l refl) bytes (local_word (codes "o") 119 [] Low bytes (omega arith))
   | inr not_l ↦ elim (cases_eq b 101) [
-    | inl e ↦ local_cons IsEnd (word (codes "q") (codes "ual") Equal) body_at b (λ t. rw e refl) bytes (local_word (codes "q") 117 (codes "al") Equal bytes (omega arith))
+    | inl e ↦
+        local_cons IsEnd (word (codes "q") (codes "ual") Equal) body_at b (λ t. rw e refl) bytes
+        (local_word (codes "q") 117 (codes "al") Equal bytes (omega arith))
     | inr not_e ↦ elim (cases_eq b 104) [
-      | inl h ↦ local_cons IsEnd (word (codes "i") (codes "gh") High) body_at b (λ t. rw h refl) bytes (local_word (codes "i") 103 (codes "h") High bytes (omega arith))
+      | inl h ↦
+          local_cons IsEnd (word (codes "i") (codes "gh") High) body_at b (λ t. rw h refl) bytes
+          (local_word (codes "i") 103 (codes "h") High bytes (omega arith))
       | inr not_h ↦ elim (cases_Bool (is_ascii_digit b)) [
-        | inl digit ↦ local_cons IsEnd (graded b) body_at b (λ t. rw (ne_eqb b 108 not_l, ne_eqb b 101 not_e, ne_eqb b 104 not_h, digit, le-ltb (b - 48) 0 (omega arith)) refl) bytes (local_graded b bytes)
-        | inr none ↦ local_fault_byte IsEnd body_at kind.Form b bytes form_is (λ t. rw (ne_eqb b 108 not_l, ne_eqb b 101 not_e, ne_eqb b 104 not_h, none) refl) body_whole
+        | inl digit ↦
+            local_cons IsEnd (grade_from b) body_at b
+            (λ t. rw (ne_eqb b 108 not_l, ne_eqb b 101 not_e, ne_eqb b 104 not_h, digit, le-ltb (b - 48) 0 (omega arith)) refl) bytes (local_grade_from b bytes)
+        | inr none ↦
+            local_fault_byte IsEnd body_at kind.Form b bytes form_is (λ t. rw (ne_eqb b 108 not_l, ne_eqb b 101 not_e, ne_eqb b 104 not_h, none) refl)
+            body_whole
       ]
     ]
   ]
@@ -206,8 +231,10 @@ local_body (b ∷ bytes) = elim (cases_eq b 108) [
 pub local_element : (text : List ℕ) → Local IsEnd element_at text
 unfolding element_at
 local_element text =
-    local_same IsEnd (then_read (literal (tt {0}) (codes "mls/")) (λ _. body_at)) element_at (λ t. sym (then_literal (tt {0}) (after_literal (codes "mls/") t) body_at)) text
-    (local_then Any IsEnd (literal (tt {0}) (codes "mls/")) (λ _. body_at) (λ _. body_starts) (λ other end. tt) text (local_literal Any (tt {0}) (codes "mls/") text) (λ x given. local_body x.1))
+    local_same IsEnd (then_read (literal (tt {0}) (codes "mls/")) (λ _. body_at)) element_at
+    (λ t. sym (then_literal (tt {0}) (after_literal (codes "mls/") t) body_at)) text
+    (local_then Any IsEnd (literal (tt {0}) (codes "mls/")) (λ _. body_at) (λ _. body_starts) (λ other end. tt) text
+    (local_literal Any (tt {0}) (codes "mls/") text) (λ x given. local_body x.1))
 
 -- the end of the text
 
@@ -228,7 +255,9 @@ finish_starts a = record { text = []; value = a; ends = nothing_ends; again = fi
 
 local_finish : {A : Type 0} (a : A) (rest : List ℕ) → Local Nothing (finish a) rest
 local_finish a [] = local_none_end Nothing (finish a) a refl (finish_end a)
-local_finish a (b ∷ rest) = local_fault_byte Nothing (finish a) kind.Form b rest form_is (λ t. rw (ne_eqb (suc (length t)) 0 (omega arith)) refl) (record { more = []; value = a; again = finish_end a })
+local_finish a (b ∷ rest) =
+    local_fault_byte Nothing (finish a) kind.Form b rest form_is (λ t. rw (ne_eqb (suc (length t)) 0 (omega arith)) refl)
+    (record { more = []; value = a; again = finish_end a })
 
 -- a range
 
@@ -249,7 +278,9 @@ range_end_starts ends = record { text = codes ")"; value = ends; ends = λ other
 
 local_range_high : (low : Element) (bytes : List ℕ) → Local Nothing (range_high low) bytes
 unfolding range_high
-local_range_high low bytes = local_then IsEnd Nothing body_at (λ high. range_end (low, high)) (λ high. range_end_starts (low, high)) nothing_ends bytes (local_body bytes) (λ x given. local_literal Nothing (low, x.0) (codes ")") x.1)
+local_range_high low bytes =
+    local_then IsEnd Nothing body_at (λ high. range_end (low, high)) (λ high. range_end_starts (low, high)) nothing_ends bytes (local_body bytes)
+    (λ x given. local_literal Nothing (low, x.0) (codes ")") x.1)
 
 range_high_starts : (low : Element) → Starts Any Nothing (range_high low)
 unfolding range_high body_at after_word
@@ -263,11 +294,17 @@ local_range_dash low bytes =
 
 range_dash_starts : (low : Element) → Starts IsEnd Nothing (range_dash low)
 unfolding range_dash range_high body_at after_word
-range_dash_starts low = record { text = codes "-low)"; value = (low, Low); ends = λ other none. (omega arith, ne_43 45 (inr (omega arith))); again = λ other none. refl }
+range_dash_starts low = record {
+  text = codes "-low)";
+  value = (low, Low);
+  ends = λ other none. (omega arith, ne_43 45 (inr (omega arith)));
+  again = λ other none. refl;
+}
 
 local_range_low : (bytes : List ℕ) → Local Nothing range_low bytes
 unfolding range_low
-local_range_low bytes = local_then IsEnd Nothing body_at range_dash range_dash_starts nothing_ends bytes (local_body bytes) (λ x given. local_range_dash x.0 x.1)
+local_range_low bytes =
+    local_then IsEnd Nothing body_at range_dash range_dash_starts nothing_ends bytes (local_body bytes) (λ x given. local_range_dash x.0 x.1)
 
 -- the readers of a range in the words of its definition
 range_is : (active : Element) (t : List ℕ) → range_at active (40 ∷ t) ≡ range_low t
@@ -285,7 +322,8 @@ pub local_range : (active : Element) (bytes : List ℕ) → Local Nothing (range
 unfolding range_at
 local_range active [] = local_none_end Nothing (range_at active) (active, active) refl (range_none active)
 local_range active (b ∷ bytes) = elim (cases_eq b 40) [
-  | inl open' ↦ local_cons Nothing range_low (range_at active) b (λ t. ap (λ k. range_at active (k ∷ t)) open' ∙ range_is active t) bytes (local_range_low bytes)
+  | inl open' ↦
+      local_cons Nothing range_low (range_at active) b (λ t. ap (λ k. range_at active (k ∷ t)) open' ∙ range_is active t) bytes (local_range_low bytes)
   | inr other ↦ local_none_byte Nothing (range_at active) (active, active) b bytes (λ t. rw (ne_eqb b 40 other) refl) (range_none active)
 ]
 
@@ -305,7 +343,12 @@ local_parts_after : (active : Element) (bytes : List ℕ) → Local Nothing (par
 unfolding parts_after
 local_parts_after active bytes =
     local_then Nothing Nothing (range_at active) (λ ends. finish (record { active = active; low = ends.0; high = ends.1 }))
-    (λ ends. record { text = []; value = record { active = active; low = ends.0; high = ends.1 }; ends = λ other none. none; again = finish_end (record { active = active; low = ends.0; high = ends.1 }) })
+    (λ ends. record {
+      text = [];
+      value = record { active = active; low = ends.0; high = ends.1 };
+      ends = λ other none. none;
+      again = finish_end (record { active = active; low = ends.0; high = ends.1 });
+    })
     (λ other none. none) bytes (local_range active bytes) (λ x given. local_finish (record { active = active; low = x.0.0; high = x.0.1 }) x.1)
 
 parts_after_starts : (active : Element) → Starts IsEnd Nothing (parts_after active)
@@ -322,30 +365,36 @@ parts_to_end = then_read element_at parts_after
 
 pub local_parts_to_end : (text : List ℕ) → Local Nothing parts_to_end text
 unfolding parts_to_end
-local_parts_to_end text = local_then IsEnd Nothing element_at parts_after parts_after_starts nothing_ends text (local_element text) (λ x given. local_parts_after x.0 x.1)
+local_parts_to_end text =
+    local_then IsEnd Nothing element_at parts_after parts_after_starts nothing_ends text (local_element text) (λ x given. local_parts_after x.0 x.1)
 
 -- what a whole text gives
 
-finished : {A : Type 0} (a : A) (rest : List ℕ) → (finish a rest >>= λ x. Ok x.0) ≡ cond (eqb (length rest) 0) (Ok a) (Err (stop_at kind.Form rest))
-finished a rest = elim (cases_Bool (eqb (length rest) 0)) [ inl whole ↦ rw whole refl | inr more ↦ rw more refl ]
+finish_is : {A : Type 0} (a : A) (rest : List ℕ) → (finish a rest >>= λ x. Ok x.0) ≡ cond (eqb (length rest) 0) (Ok a) (Err (stop_at kind.Form rest))
+finish_is a rest = elim (cases_Bool (eqb (length rest) 0)) [ inl whole ↦ rw whole refl | inr more ↦ rw more refl ]
 
 pub whole_element_is : (text : List ℕ) → whole_element text ≡ (element_to_end text >>= λ x. Ok x.0)
 unfolding whole_element element_to_end
 whole_element_is text =
-    alike (element_at text) (λ x. cond (eqb (length x.1) 0) (Ok x.0) (Err (stop_at kind.Form x.1))) (λ x. finish x.0 x.1 >>= λ y. Ok y.0) (λ x given. sym (finished x.0 x.1))
+    alike (element_at text) (λ x. cond (eqb (length x.1) 0) (Ok x.0) (Err (stop_at kind.Form x.1))) (λ x. finish x.0 x.1 >>= λ y. Ok y.0)
+    (λ x given. sym (finish_is x.0 x.1))
     ∙ sym (then_assoc (element_at text) (λ x. finish x.0 x.1) (λ y. Ok y.0))
 
 abbrev parts_of : Element → Element × Element → Parts
 parts_of active ends = record { active = active; low = ends.0; high = ends.1 }
 
-parts_after_is : (active : Element) (bytes : List ℕ) → (range_at active bytes >>= λ range. cond (eqb (length range.1) 0) (Ok (parts_of active range.0)) (Err (stop_at kind.Form range.1))) ≡ (parts_after active bytes >>= λ x. Ok x.0)
+parts_after_is : (active : Element) (bytes : List ℕ)
+    → (range_at active bytes >>= λ range. cond (eqb (length range.1) 0) (Ok (parts_of active range.0)) (Err (stop_at kind.Form range.1)))
+    ≡ (parts_after active bytes >>= λ x. Ok x.0)
 unfolding parts_after
 parts_after_is active bytes =
-    alike (range_at active bytes) (λ range. cond (eqb (length range.1) 0) (Ok (parts_of active range.0)) (Err (stop_at kind.Form range.1))) (λ range. finish (parts_of active range.0) range.1 >>= λ y. Ok y.0) (λ range given. sym (finished (parts_of active range.0) range.1))
+    alike (range_at active bytes) (λ range. cond (eqb (length range.1) 0) (Ok (parts_of active range.0)) (Err (stop_at kind.Form range.1)))
+    (λ range. finish (parts_of active range.0) range.1 >>= λ y. Ok y.0) (λ range given. sym (finish_is (parts_of active range.0) range.1))
     ∙ sym (then_assoc (range_at active bytes) (λ range. finish (parts_of active range.0) range.1) (λ y. Ok y.0))
 
 pub whole_parts_is : (text : List ℕ) → whole_parts text ≡ (parts_to_end text >>= λ x. Ok x.0)
 unfolding whole_parts parts_to_end
 whole_parts_is text =
-    alike (element_at text) (λ x. range_at x.0 x.1 >>= λ range. cond (eqb (length range.1) 0) (Ok (parts_of x.0 range.0)) (Err (stop_at kind.Form range.1))) (λ x. parts_after x.0 x.1 >>= λ y. Ok y.0) (λ x given. parts_after_is x.0 x.1)
+    alike (element_at text) (λ x. range_at x.0 x.1 >>= λ range. cond (eqb (length range.1) 0) (Ok (parts_of x.0 range.0)) (Err (stop_at kind.Form range.1)))
+    (λ x. parts_after x.0 x.1 >>= λ y. Ok y.0) (λ x given. parts_after_is x.0 x.1)
     ∙ sym (then_assoc (element_at text) (λ x. parts_after x.0 x.1) (λ y. Ok y.0))

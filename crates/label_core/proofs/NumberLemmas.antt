@@ -6,28 +6,10 @@ use Rattle.std.specs.Fmt.{decimal}
 use Rattle.std.proofs.lemmas.Bool.{or_parts, eqb-false, ltb-false, and_parts, leb-true}
 use Rattle.std.proofs.lemmas.Fmt.{decimal_digit, decimal_nonempty}
 use Rattle.label_core.specs.declared.fault.LabelKind.{LabelKind}
-use Rattle.label_core.specs.declared.reading.Stop.{Stop}
+use Rattle.label_core.specs.declared.fault.Stop.{Stop}
 use Rattle.label_core.specs.Reading.{◌>>=◌, Gives, digits_at, number_at}
-use Rattle.label_core.proofs.Decimals.{decimal_more}
-
--- the value of a step that did not fail
-pub bind_ok : {A B : Type 0} (r : Result A Stop) (f : A → Result B Stop) (y : B) → (r >>= f) ≡ Ok y → (x : A) × (r ≡ Ok x) × (f x ≡ Ok y)
-bind_ok (Ok x) f y e = (x, refl, e)
-bind_ok (Err s) f y e = absurd cc
-
--- a test that chose, and which way
-pub chosen : {A : Type 0} (b : Bool) (x y z : A) → cond b x y ≡ z → ((b ≡ true) × (x ≡ z)) ⊎ ((b ≡ false) × (y ≡ z))
-chosen true x y z e = inl (refl, e)
-chosen false x y z e = inr (refl, e)
-
-abbrev pub done : {A : Type 0} → A → Result A Stop
-done x = Ok x
-
-pub ok_is : {A : Type 0} (x y : A) → done x ≡ done y → x ≡ y
-ok_is x y e = cc
-
-pub err_not_ok : {A P : Type 0} (s : Stop) (x : A) → Err s ≡ done x → P
-err_not_ok s x e = absurd cc
+use Rattle.label_core.proofs.StepLemmas.{choice_cases, ok_of, ok_is, err_not_ok}
+use Rattle.label_core.proofs.DecimalLemmas.{decimal_more}
 
 -- a digit is a byte from 48 to 57
 pub digit_range : (d : ℕ) → is_ascii_digit d ≡ true → (48 ≤ d) × (d ≤ 57)
@@ -52,10 +34,11 @@ digit_more n d bytes some low high fits =
     let last : 48 + (n * 10 + (d - 48)) % 10 ≡ d = omega arith in
     rw (decimal_more (n * 10 + (d - 48)) (omega arith) fits, front, last) (sym (append_assoc (decimal n) (d ∷ []) bytes))
 
-pub digits_take : (why : LabelKind) (most n : ℕ) (bytes : List ℕ) (x : ℕ × List ℕ) → n ≤ most → most < 2 ^ 16 → digits_at why most n bytes ≡ Ok x → TakesDigits most n bytes x
+pub digits_take : (why : LabelKind) (most n : ℕ) (bytes : List ℕ) (x : ℕ × List ℕ) → n ≤ most → most < 2 ^ 16 → digits_at why most n bytes ≡ Ok x
+    → TakesDigits most n bytes x
 digits_take why most n [] x small fits e = rw (← ok_is (n, []) x e) (record { parts = refl; from = omega arith; to = small; ends = refl })
-digits_take why most n (d ∷ bytes) x small fits e = elim (chosen (is_ascii_digit d) _ _ (done x) e) [
-  | inl digit ↦ elim (chosen (eqb n 0 || ltb most (n * 10 + (d - 48))) _ _ (done x) digit.1) [
+digits_take why most n (d ∷ bytes) x small fits e = elim (choice_cases (is_ascii_digit d) _ _ (ok_of x) e) [
+  | inl digit ↦ elim (choice_cases (eqb n 0 || ltb most (n * 10 + (d - 48))) _ _ (ok_of x) digit.1) [
     | inl bad ↦ err_not_ok _ x bad.1
     | inr good ↦
         let tests = or_parts (eqb n 0) (ltb most (n * 10 + (d - 48))) good.0 in
@@ -63,7 +46,12 @@ digits_take why most n (d ∷ bytes) x small fits e = elim (chosen (is_ascii_dig
         let within : n * 10 + (d - 48) ≤ most = ltb-false most (n * 10 + (d - 48)) tests.1 in
         let range = digit_range d digit.0 in
         let rest = digits_take why most (n * 10 + (d - 48)) bytes x within fits good.1 in
-        record { parts = digit_more n d bytes (omega arith) range.0 range.1 (omega arith) ∙ rest.parts; from = omega (arith, rest.from); to = rest.to; ends = rest.ends }
+        record {
+          parts = digit_more n d bytes (omega arith) range.0 range.1 (omega arith) ∙ rest.parts;
+          from = omega (arith, rest.from);
+          to = rest.to;
+          ends = rest.ends;
+        }
   ]
   | inr other ↦ rw (← ok_is (n, d ∷ bytes) x other.1) (record { parts = refl; from = omega arith; to = small; ends = other.0 })
 ]
@@ -76,11 +64,12 @@ pub record TakesNumber (least most : ℕ) (bytes : List ℕ) (x : ℕ × List �
   pub ends : begins_digit x.1 ≡ false
   pub shorter : length x.1 < length bytes
 
-pub number_takes : (why : LabelKind) (least most : ℕ) (bytes : List ℕ) (x : ℕ × List ℕ) → 9 ≤ most → most < 2 ^ 16 → number_at why least most bytes ≡ Ok x → TakesNumber least most bytes x
+pub number_takes : (why : LabelKind) (least most : ℕ) (bytes : List ℕ) (x : ℕ × List ℕ) → 9 ≤ most → most < 2 ^ 16 → number_at why least most bytes ≡ Ok x
+    → TakesNumber least most bytes x
 unfolding number_at
 number_takes why least most [] x nine fits e = err_not_ok _ x e
-number_takes why least most (d ∷ bytes) x nine fits e = elim (chosen (is_ascii_digit d) _ _ (done x) e) [
-  | inl digit ↦ elim (chosen (ltb (d - 48) least) _ _ (done x) digit.1) [
+number_takes why least most (d ∷ bytes) x nine fits e = elim (choice_cases (is_ascii_digit d) _ _ (ok_of x) e) [
+  | inl digit ↦ elim (choice_cases (ltb (d - 48) least) _ _ (ok_of x) digit.1) [
     | inl bad ↦ err_not_ok _ x bad.1
     | inr good ↦
         let range = digit_range d digit.0 in
@@ -100,7 +89,8 @@ number_takes why least most (d ∷ bytes) x nine fits e = elim (chosen (is_ascii
 ]
 
 -- what a function that reads a number knows of it
-pub number_is : {X : Type 0} (view : X → ℕ × List ℕ) (r : Result X Stop) (why : LabelKind) (least most : ℕ) (bytes : List ℕ) → 9 ≤ most → most < 2 ^ 16 → Gives view r (number_at why least most bytes)
+pub number_is : {X : Type 0} (view : X → ℕ × List ℕ) (r : Result X Stop) (why : LabelKind) (least most : ℕ) (bytes : List ℕ) → 9 ≤ most → most < 2 ^ 16
+    → Gives view r (number_at why least most bytes)
     → IfOk r (λ x. (least ≤ (view x).0) × ((view x).0 ≤ most)) × IfOk r (λ x. length (view x).1 < length bytes)
 number_is view (Ok x) why least most bytes nine fits given = let t = number_takes why least most bytes (view x) nine fits given in ((t.from, t.to), t.shorter)
 number_is view (Err s) why least most bytes nine fits given = (tt, tt)

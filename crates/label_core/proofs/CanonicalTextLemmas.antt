@@ -11,7 +11,7 @@ use Rattle.label_core.specs.CompSet.{IsCompartment, IsCompSet, RisesFrom, with_n
 use Rattle.label_core.specs.Element.{IsElement, is_same}
 use Rattle.label_core.specs.Subject.{Parts, IsSubject}
 use Rattle.label_core.specs.Text.{body_text, element_text, subject_text}
-use Rattle.label_core.specs.Grammar.{Writing, word_low, word_lo, word_equal, word_eq, word_high, word_hi, plain, listed, IsWriting, spelled, meant, alone, ranged, SpellsElement, SpellsParts}
+use Rattle.label_core.specs.Grammar.{Writing, word_low, word_lo, word_equal, word_eq, word_high, word_hi, grade_alone, grade_with_set, IsWriting, spelled_element, meant_element, active_alone, with_range, SpellsElement, SpellsParts}
 
 -- what stands before a number of a set is below it
 rises_before : (m n : ℕ) (ms rest : List ℕ) → RisesFrom m (ms ++ n ∷ rest) → m < n
@@ -52,28 +52,33 @@ IsCompSet-fold set [] is are = is
 IsCompSet-fold set (n ∷ ns) is are = IsCompSet-fold (with_number n set) ns (RisesFrom-with_number 0 n set (omega (arith, are.0.0)) are.0.1 is) are.1
 
 -- what a way to write means is an element
-pub meant_is : (w : Writing) → IsWriting w → IsElement (meant w)
+pub meant_is : (w : Writing) → IsWriting w → IsElement (meant_element w)
 meant_is word_low is = record { grade = omega arith; set = tt }
 meant_is word_lo is = record { grade = omega arith; set = tt }
 meant_is word_equal is = record { grade = omega arith; set = tt }
 meant_is word_eq is = record { grade = omega arith; set = tt }
 meant_is word_high is = record { grade = omega arith; set = tt }
 meant_is word_hi is = record { grade = omega arith; set = tt }
-meant_is (plain grade) is = record { grade = is; set = tt }
-meant_is (listed grade first more) is = record { grade = is.0; set = IsCompSet-fold [] (first ∷ more) tt is.1 }
+meant_is (grade_alone grade) is = record { grade = is; set = tt }
+meant_is (grade_with_set grade first more) is = record { grade = is.0; set = IsCompSet-fold [] (first ∷ more) tt is.1 }
 
 -- the way that an element is printed
-pub writing_of : (e : Element) → IsElement e → (w : Writing) × IsWriting w × (body_text e ≡ spelled w) × (meant w ≡ e)
+pub writing_of : (e : Element) → IsElement e → (w : Writing) × IsWriting w × (body_text e ≡ spelled_element w) × (meant_element w ≡ e)
 writing_of Low is = (word_low, tt, refl, refl)
 writing_of Equal is = (word_equal, tt, refl, refl)
 writing_of High is = (word_high, tt, refl, refl)
-writing_of (Grade grade []) is = (plain grade, is.grade, append-nil (decimal grade), refl)
-writing_of (Grade grade (n ∷ ns)) is =
-    (listed grade n ns, (is.grade, compartments_of 0 (n ∷ ns) is.set), simp append_assoc, ap (λ (set : List ℕ). Grade grade set) (set_of-CompSet (n ∷ ns) is.set))
+writing_of (Grade grade []) is = (grade_alone grade, is.grade, append-nil (decimal grade), refl)
+writing_of (Grade grade (n ∷ ns)) is = (
+  grade_with_set grade n ns,
+  (is.grade, compartments_of 0 (n ∷ ns) is.set),
+  simp append_assoc,
+  ap (λ (set : List ℕ). Grade grade set) (set_of-CompSet (n ∷ ns) is.set),
+)
 
 pub element_text_spells : (e : Element) → IsElement e → SpellsElement (element_text e) e
 unfolding element_text
-element_text_spells e is = let w = writing_of e is in record { writing = w.0; valid = w.1; spelling = ap (λ (t : List ℕ). codes "mls/" ++ t) w.2; meaning = w.3 }
+element_text_spells e is =
+    let w = writing_of e is in record { writing = w.0; valid = w.1; spelling = ap (λ (t : List ℕ). codes "mls/" ++ t) w.2; meaning = w.3 }
 
 -- the test of two elements tells that they are one
 pub is_same_one : (a b : Element) → is_same a b ≡ true → a ≡ b
@@ -104,13 +109,14 @@ subject_text_alone s same is =
     let both = and_parts (is_same s.low s.active) (is_same s.high s.active) same in
     let text : subject_text s ≡ (codes "mls/" ++ body_text s.active) ++ [] = rw same refl in
     record {
-      writing = alone w.0;
+      writing = active_alone w.0;
       valid = w.1;
       spelling = text ∙ append-nil (codes "mls/" ++ body_text s.active) ∙ ap (λ (t : List ℕ). codes "mls/" ++ t) w.2;
       meaning = rw (w.3, is_same_one s.low s.active both.0, is_same_one s.high s.active both.1) refl;
     }
 
-in_brackets : (policy active open' low dash high close : List ℕ) → (policy ++ active) ++ (open' ++ low ++ dash ++ high ++ close) ≡ policy ++ active ++ open' ++ low ++ dash ++ high ++ close
+in_brackets : (policy active open' low dash high close : List ℕ)
+    → (policy ++ active) ++ (open' ++ low ++ dash ++ high ++ close) ≡ policy ++ active ++ open' ++ low ++ dash ++ high ++ close
 in_brackets policy active open' low dash high close = simp append_assoc
 
 subject_text_ranged : (s : Parts) → (is_same s.low s.active && is_same s.high s.active) ≡ false → IsSubject s → SpellsParts (subject_text s) s
@@ -120,11 +126,15 @@ subject_text_ranged s other is =
     let low = writing_of s.low is.low in
     let high = writing_of s.high is.high in
     record {
-      writing = ranged w.0 low.0 high.0;
+      writing = with_range w.0 low.0 high.0;
       valid = (w.1, low.1, high.1);
-      spelling = rw (other, w.2, low.2, high.2) (in_brackets (codes "mls/") (spelled w.0) (codes "(") (spelled low.0) (codes "-") (spelled high.0) (codes ")"));
+      spelling =
+          rw (other, w.2, low.2, high.2)
+          (in_brackets (codes "mls/") (spelled_element w.0) (codes "(") (spelled_element low.0) (codes "-") (spelled_element high.0) (codes ")"));
       meaning = rw (w.3, low.3, high.3) refl;
     }
 
 pub subject_text_spells : (s : Parts) → IsSubject s → SpellsParts (subject_text s) s
-subject_text_spells s is = elim (cases_Bool (is_same s.low s.active && is_same s.high s.active)) [ inl same ↦ subject_text_alone s same is | inr other ↦ subject_text_ranged s other is ]
+subject_text_spells s is =
+    elim (cases_Bool (is_same s.low s.active && is_same s.high s.active))
+    [ inl same ↦ subject_text_alone s same is | inr other ↦ subject_text_ranged s other is ]

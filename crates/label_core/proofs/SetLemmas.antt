@@ -78,7 +78,8 @@ has_number-with_number n m (k ∷ ks) = grind (arith, nat_tests, has_number-with
 
 -- two sets with the same numbers are one
 pub same_numbers : (s t : List ℕ) → IsCompSet s → IsCompSet t → ((n : ℕ) → has_number n s ≡ has_number n t) → s ≡ t
-same_numbers s t s_set t_set same = is_subset_both 0 s t s_set t_set (is_subset_of_each s t (λ n is. sym (same n) ∙ is)) (is_subset_of_each t s (λ n is. same n ∙ is))
+same_numbers s t s_set t_set same =
+    is_subset_both 0 s t s_set t_set (is_subset_of_each s t (λ n is. sym (same n) ∙ is)) (is_subset_of_each t s (λ n is. same n ∙ is))
 
 -- lists of numbers that are sets are equal exactly where they hold each other
 pub bytes_eq-CompSet : (s t : List ℕ) → IsCompSet s → IsCompSet t → bytes_eq s t ≡ (is_subset s t && is_subset t s)
