@@ -3,7 +3,7 @@ ghost use Rattle.std.specs.Prelude.{◌≡◌, ◌≤◌, IfOk};
 ghost use Rattle.std.specs.List.Sorted.{IsPermutation};
 ghost use Rattle.acl_core.specs.Acl.{acl_of, IsAcl};
 ghost use Rattle.acl_core.specs.Deciding.{grants, has_exec};
-ghost use Rattle.acl_core.specs.Mode.{minimal_list, mode_of, with_mode, inherited};
+ghost use Rattle.acl_core.specs.Mode.{minimal_list, mode_of, with_mode, inherited_list};
 
 use crate::mode::{self, MODE_MOST};
 use crate::valid::{fault_of, in_order};
@@ -62,7 +62,7 @@ impl Acl {
         ensures { result ≡ grants self.now cred.now owner group want }
     {
         let found = Findings::of(self.entries(), cred, group, want);
-        found.decided(cred.uid == owner)
+        found.answer(cred.uid == owner)
     }
 
     /// The list of a mode: an entry for the owner, one for the group and one for others.
@@ -98,10 +98,10 @@ impl Acl {
     /// limited by the bits of the mode that the file is made with.
     pub fn inherit(&self, mode: u16) -> Acl
         requires { mode ≤ MODE_MOST }
-        ensures { result ≡ inherited self.now mode }
+        ensures { result ≡ inherited_list self.now mode }
     {
         Acl {
-            entries: mode::inherited(self.entries.as_slice(), mode),
+            entries: mode::inherited_list(self.entries.as_slice(), mode),
         }
     }
 

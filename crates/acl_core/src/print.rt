@@ -5,7 +5,7 @@ ghost use Rattle.std.specs.Fmt.{decimal};
 ghost use Rattle.arrayvec.specs.ArrayVec.{array_vec_len};
 ghost use Rattle.acl_core.specs.Text.{tag_text, perm_text, entry_text, next_text, list_text};
 
-use crate::text::{COLON, COMMA, DASH, LETTER_R, LETTER_W, LETTER_X, LIST_ROOM, TEXT_ROOM, ZERO};
+use crate::text::{COLON, COMMA, DASH, LETTER_R, LETTER_W, LETTER_X, LIST_ROOM, TEXT_ROOM};
 use crate::{Acl, Entry, MOST_ENTRIES, Perm, Tag};
 use arrayvec::ArrayVec;
 
@@ -35,22 +35,16 @@ fn push_word(out: &mut Text, word: &[u8])
 }
 
 /// Appends a number in decimal.
-#[tactic(auto, using(crate::proofs::Decimals::decimals))]
-fn push_decimal(out: &mut Text, n: u32)
-    requires { array_vec_len out.old + length (decimal n) ≤ TEXT_ROOM }
-    ensures text { out.new.items ≡ out.old.items ++ decimal n }
-    ensures len { array_vec_len out.new ≡ array_vec_len out.old + length (decimal n) }
+fn push_decimal(out: &mut Text, number: u32)
+    requires { array_vec_len out.old + length (decimal number) ≤ TEXT_ROOM }
+    ensures text { out.new.items ≡ out.old.items ++ decimal number }
+    ensures len { array_vec_len out.new ≡ array_vec_len out.old + length (decimal number) }
 {
-    if n < 10 {
-        out.push(ZERO + n as u8);
-        return;
-    }
-    push_decimal(out, n / 10);
-    out.push(ZERO + (n % 10) as u8);
+    push_word(out, itoa::Buffer::new().format(number).as_bytes());
 }
 
 /// Appends a word, a number and a colon.
-#[tactic(auto, using(crate::proofs::Decimals::length_ten))]
+#[tactic(auto, using(crate::proofs::DecimalLemmas::length_ten))]
 fn push_named(out: &mut Text, word: &[u8], number: u32)
     requires room { array_vec_len out.old + TAG_MOST ≤ TEXT_ROOM }
     requires short { length word.now ≤ WORD_MOST }

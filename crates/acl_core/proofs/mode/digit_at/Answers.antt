@@ -2,7 +2,7 @@ use Rattle.std.proofs.Common.{◌≡◌, true, false, sym, get_or, rules, ◌∙
 use Rattle.acl_core.specs.declared.entry.Tag.TheVariants.{UserObj}
 use Rattle.acl_core.specs.declared.entry.Entry.{Entry}
 use Rattle.acl_core.specs.Entry.{same_tag}
-use Rattle.acl_core.proofs.Modes.{digit_of_next}
+use Rattle.acl_core.proofs.ModeListLemmas.{digit_of_next}
 use Rattle.acl_core.proofs.mode.digit_at.Goals as goal
 
 pub returns-then-eq-clause-value : goal.returns-then-eq-clause-value

@@ -12,12 +12,12 @@ use Rattle.acl_core.specs.declared.entry.Entry.{Entry}
 use Rattle.acl_core.specs.Perm.{digit_of, perm_of, has_all, common}
 use Rattle.acl_core.specs.Entry.{same_tag, has_tag, perms_at, perms_where}
 use Rattle.acl_core.specs.Acl.{IsAcl}
-use Rattle.acl_core.specs.Deciding.{in_group, matches_group, limited_by, grants}
-use Rattle.acl_core.specs.Mode.{owner_bits, group_bits, other_bits, class_bits, minimal_list, class_tag, digit_of_one, mode_of, bits_for, with_mode, limited_to, inherited}
-use Rattle.acl_core.proofs.Tags.{same_tag-true, entries_with, entries_with_once, list_any_is, has_some}
-use Rattle.acl_core.proofs.Faults.{valid_from_no_fault}
-use Rattle.acl_core.proofs.Walked.{has_all-common}
-use Rattle.acl_core.proofs.Retagged.{changed, any_tag}
+use Rattle.acl_core.specs.Deciding.{in_group, matches_group, limit_by, grants}
+use Rattle.acl_core.specs.Mode.{owner_bits, group_bits, other_bits, class_bits, minimal_list, class_tag, digit_of_one, mode_of, bits_for, with_mode, limit_to, inherited_list}
+use Rattle.acl_core.proofs.TagLemmas.{same_tag-true, entries_with, entries_with_once, list_any_is, has_some}
+use Rattle.acl_core.proofs.FaultLemmas.{valid_from_no_fault}
+use Rattle.acl_core.proofs.WalkLemmas.{has_all-common}
+use Rattle.acl_core.proofs.SameTagLemmas.{with_perm, any_tag}
 
 -- ---- the nine bits
 
@@ -60,12 +60,12 @@ one_with tag list acl has =
     ]
 
 -- the entries with a tag after a change are those before, changed
-entries_changed : (perm : Entry → Perm) (tag : Tag) (list : List Entry) → entries_with tag (map (changed perm) list) ≡ map (changed perm) (entries_with tag list)
-entries_changed perm tag [] = refl
-entries_changed perm tag (e ∷ list) =
+entries_with_perm : (perm : Entry → Perm) (tag : Tag) (list : List Entry) → entries_with tag (map (with_perm perm) list) ≡ map (with_perm perm) (entries_with tag list)
+entries_with_perm perm tag [] = refl
+entries_with_perm perm tag (e ∷ list) =
     elim (cases_Bool (same_tag e.tag tag)) [
-      | inl has ↦ rw has (ap (λ others. changed perm e ∷ others) (entries_changed perm tag list))
-      | inr lacks ↦ rw lacks (entries_changed perm tag list)
+      | inl has ↦ rw has (ap (λ others. with_perm perm e ∷ others) (entries_with_perm perm tag list))
+      | inr lacks ↦ rw lacks (entries_with_perm perm tag list)
     ]
 
 -- each entry with a tag has it
@@ -81,15 +81,15 @@ tags_are tag (f ∷ list) e rest is =
     ]
 
 -- the digit that an entry with a tag has after a change
-changed_digit : (perm : Entry → Perm) (bits : Perm) (tag : Tag) (list : List Entry) → IsAcl list → has_tag tag list ≡ true → ((e : Entry) → e.tag ≡ tag → perm e ≡ bits)
-    → digit_of_one (perms_at tag (map (changed perm) list)) ≡ digit_of bits
-changed_digit perm bits tag list acl has gives =
+with_perm_digit : (perm : Entry → Perm) (bits : Perm) (tag : Tag) (list : List Entry) → IsAcl list → has_tag tag list ≡ true → ((e : Entry) → e.tag ≡ tag → perm e ≡ bits)
+    → digit_of_one (perms_at tag (map (with_perm perm) list)) ≡ digit_of bits
+with_perm_digit perm bits tag list acl has gives =
     let one = one_with tag list acl has in
-    let there : entries_with tag (map (changed perm) list) ≡ changed perm one.0 ∷ [] = entries_changed perm tag list ∙ ap (map (changed perm)) one.1 in
+    let there : entries_with tag (map (with_perm perm) list) ≡ with_perm perm one.0 ∷ [] = entries_with_perm perm tag list ∙ ap (map (with_perm perm)) one.1 in
     rw there (ap digit_of (gives one.0 (tags_are tag list one.0 [] one.1)))
 
 -- a change of permissions leaves the tag of the group digit
-class_tag_changed : (perm : Entry → Perm) (list : List Entry) → class_tag (map (changed perm) list) ≡ class_tag list
+class_tag_changed : (perm : Entry → Perm) (list : List Entry) → class_tag (map (with_perm perm) list) ≡ class_tag list
 class_tag_changed perm list = ap (λ b. cond b Mask GroupObj) (any_tag perm (λ t. same_tag t Mask) list)
 
 -- a tag that the group digit may speak of is neither user nor other
@@ -109,20 +109,20 @@ class_is list acl =
     ]
 
 -- a list that is given a mode has it
-pub changed_mode : (list : List Entry) (mode : ℕ) → IsAcl list → mode ≤ 511 → mode_of (with_mode list mode) ≡ mode
+pub with_mode_mode : (list : List Entry) (mode : ℕ) → IsAcl list → mode ≤ 511 → mode_of (with_mode list mode) ≡ mode
 unfolding mode_of with_mode
-changed_mode list mode acl most =
+with_mode_mode list mode acl most =
     let v = valid_from_no_fault list acl.valid in
     let both = and_parts _ _ v.required in
     let class = class_tag list in
     let c = class_is list acl in
     let perm : Entry → Perm = λ e. unwrap_or (bits_for class mode e.tag) e.perm in
     let owner : digit_of_one (perms_at UserObj (with_mode list mode)) ≡ digit_of (owner_bits mode) =
-    changed_digit perm (owner_bits mode) UserObj list acl (and_parts _ _ both.0).0 (λ e is. ap (λ t. unwrap_or (bits_for class mode t) e.perm) is) in
+    with_perm_digit perm (owner_bits mode) UserObj list acl (and_parts _ _ both.0).0 (λ e is. ap (λ t. unwrap_or (bits_for class mode t) e.perm) is) in
     let group : digit_of_one (perms_at class (with_mode list mode)) ≡ digit_of (group_bits mode) =
-    changed_digit perm (group_bits mode) class list acl c.1 (λ e is. ap (λ t. unwrap_or (bits_for class mode t) e.perm) is ∙ rw (c.0.0, c.0.2) refl) in
+    with_perm_digit perm (group_bits mode) class list acl c.1 (λ e is. ap (λ t. unwrap_or (bits_for class mode t) e.perm) is ∙ rw (c.0.0, c.0.2) refl) in
     let other : digit_of_one (perms_at Other (with_mode list mode)) ≡ digit_of (other_bits mode) =
-    changed_digit perm (other_bits mode) Other list acl both.1 (λ e is. ap (λ t. unwrap_or (bits_for class mode t) e.perm) is ∙ rw c.0.1 refl) in
+    with_perm_digit perm (other_bits mode) Other list acl both.1 (λ e is. ap (λ t. unwrap_or (bits_for class mode t) e.perm) is ∙ rw c.0.1 refl) in
     rw (owner, class_tag_changed perm list, group, other) (three_digits mode most)
 
 -- ---- lists that grant no more
@@ -143,7 +143,7 @@ common_within : (p q : Perm) → Within (common p q) p
 common_within p q want h = (and_parts _ _ (sym (has_all-common p q want) ∙ h)).0
 
 -- a permission limited by bits is within itself
-limited_within : (p : Perm) (bits : Option Perm) → Within (limited_to p bits) p
+limited_within : (p : Perm) (bits : Option Perm) → Within (limit_to p bits) p
 limited_within p (Some bits) = common_within p bits
 limited_within p None = λ want h. h
 
@@ -171,7 +171,7 @@ masked_within mask other (q ∷ narrow) [] m within = absurd within
 masked_within mask other (q ∷ narrow) (p ∷ perms) m within = (both_within q p mask other within.0 m, masked_within mask other narrow perms m within.1)
 
 -- permissions limited by narrower masks are narrower
-limits_within : (masks others narrow perms : List Perm) → AllWithin masks others → AllWithin narrow perms → AllWithin (limited_by masks narrow) (limited_by others perms)
+limits_within : (masks others narrow perms : List Perm) → AllWithin masks others → AllWithin narrow perms → AllWithin (limit_by masks narrow) (limit_by others perms)
 limits_within [] [] narrow perms m within = within
 limits_within [] (other ∷ others) narrow perms m within = absurd m
 limits_within (mask ∷ masks) [] narrow perms m within = absurd m
@@ -179,7 +179,7 @@ limits_within (mask ∷ masks) (other ∷ others) narrow perms m within = masked
 
 module _ (perm : Entry → Perm) (narrows : (e : Entry) → Within (perm e) e.perm) where
   -- a change that narrows each entry narrows those that pass a test
-  perms_within : (test : Tag → Bool) (list : List Entry) → AllWithin (perms_where test (map (changed perm) list)) (perms_where test list)
+  perms_within : (test : Tag → Bool) (list : List Entry) → AllWithin (perms_where test (map (with_perm perm) list)) (perms_where test list)
   perms_within test [] = tt
   perms_within test (e ∷ list) =
       elim (cases_Bool (test e.tag)) [
@@ -188,39 +188,39 @@ module _ (perm : Entry → Perm) (narrows : (e : Entry) → Within (perm e) e.pe
       ]
 
   -- what is granted after such a change was granted before
-  changed_grants : (list : List Entry) (cred : Cred) (owner group : ℕ) (want : Perm) → grants (map (changed perm) list) cred owner group want ≡ true → grants list cred owner group want ≡ true
+  with_perm_grants : (list : List Entry) (cred : Cred) (owner group : ℕ) (want : Perm) → grants (map (with_perm perm) list) cred owner group want ≡ true → grants list cred owner group want ≡ true
   unfolding grants
-  changed_grants list cred owner group want h =
+  with_perm_grants list cred owner group want h =
       let user = λ (t : Tag). same_tag t (User cred.uid) in
       let matches = matches_group cred group in
       let masks = perms_within (λ t. same_tag t Mask) list in
-      let has_user : has_tag (User cred.uid) (map (changed perm) list) ≡ has_tag (User cred.uid) list = any_tag perm user list in
-      let has_group : list_any (λ e. matches_group cred group e.tag) (map (changed perm) list) ≡ list_any (λ e. matches_group cred group e.tag) list = any_tag perm matches list in
+      let has_user : has_tag (User cred.uid) (map (with_perm perm) list) ≡ has_tag (User cred.uid) list = any_tag perm user list in
+      let has_group : list_any (λ e. matches_group cred group e.tag) (map (with_perm perm) list) ≡ list_any (λ e. matches_group cred group e.tag) list = any_tag perm matches list in
       elim (cases_Bool (eqb cred.uid owner)) [
         | inl owns ↦
-            let h : list_any (λ p. has_all p want) (perms_at UserObj (map (changed perm) list)) ≡ true = rw owns at h in
-            rw owns (any_within (perms_at UserObj (map (changed perm) list)) (perms_at UserObj list) want (perms_within (λ t. same_tag t UserObj) list) h)
+            let h : list_any (λ p. has_all p want) (perms_at UserObj (map (with_perm perm) list)) ≡ true = rw owns at h in
+            rw owns (any_within (perms_at UserObj (map (with_perm perm) list)) (perms_at UserObj list) want (perms_within (λ t. same_tag t UserObj) list) h)
         | inr stranger ↦ elim (cases_Bool (has_tag (User cred.uid) list)) [
           | inl named ↦
-              let narrow = limited_by (perms_at Mask (map (changed perm) list)) (perms_at (User cred.uid) (map (changed perm) list)) in
+              let narrow = limit_by (perms_at Mask (map (with_perm perm) list)) (perms_at (User cred.uid) (map (with_perm perm) list)) in
               let h : list_any (λ p. has_all p want) narrow ≡ true = rw (stranger, has_user, named) at h in
-              rw (stranger, named) (any_within narrow (limited_by (perms_at Mask list) (perms_at (User cred.uid) list)) want
-              (limits_within (perms_at Mask (map (changed perm) list)) (perms_at Mask list) (perms_at (User cred.uid) (map (changed perm) list)) (perms_at (User cred.uid) list) masks (perms_within user list)) h)
+              rw (stranger, named) (any_within narrow (limit_by (perms_at Mask list) (perms_at (User cred.uid) list)) want
+              (limits_within (perms_at Mask (map (with_perm perm) list)) (perms_at Mask list) (perms_at (User cred.uid) (map (with_perm perm) list)) (perms_at (User cred.uid) list) masks (perms_within user list)) h)
           | inr unnamed ↦ elim (cases_Bool (list_any (λ e. matches_group cred group e.tag) list)) [
             | inl some ↦
-                let narrow = limited_by (perms_at Mask (map (changed perm) list)) (perms_where matches (map (changed perm) list)) in
+                let narrow = limit_by (perms_at Mask (map (with_perm perm) list)) (perms_where matches (map (with_perm perm) list)) in
                 let h : list_any (λ p. has_all p want) narrow ≡ true = rw (stranger, has_user, unnamed, has_group, some) at h in
-                rw (stranger, unnamed, some) (any_within narrow (limited_by (perms_at Mask list) (perms_where matches list)) want
-                (limits_within (perms_at Mask (map (changed perm) list)) (perms_at Mask list) (perms_where matches (map (changed perm) list)) (perms_where matches list) masks (perms_within matches list)) h)
+                rw (stranger, unnamed, some) (any_within narrow (limit_by (perms_at Mask list) (perms_where matches list)) want
+                (limits_within (perms_at Mask (map (with_perm perm) list)) (perms_at Mask list) (perms_where matches (map (with_perm perm) list)) (perms_where matches list) masks (perms_within matches list)) h)
             | inr none ↦
-                let h : list_any (λ p. has_all p want) (perms_at Other (map (changed perm) list)) ≡ true = rw (stranger, has_user, unnamed, has_group, none) at h in
-                rw (stranger, unnamed, none) (any_within (perms_at Other (map (changed perm) list)) (perms_at Other list) want (perms_within (λ t. same_tag t Other) list) h)
+                let h : list_any (λ p. has_all p want) (perms_at Other (map (with_perm perm) list)) ≡ true = rw (stranger, has_user, unnamed, has_group, none) at h in
+                rw (stranger, unnamed, none) (any_within (perms_at Other (map (with_perm perm) list)) (perms_at Other list) want (perms_within (λ t. same_tag t Other) list) h)
           ]
         ]
       ]
 
 -- what an inherited list grants, the default list grants
-pub inherited_narrows : (list : List Entry) (cred : Cred) (owner group mode : ℕ) (want : Perm) → grants (inherited list mode) cred owner group want ≡ true → grants list cred owner group want ≡ true
-unfolding inherited
+pub inherited_narrows : (list : List Entry) (cred : Cred) (owner group mode : ℕ) (want : Perm) → grants (inherited_list list mode) cred owner group want ≡ true → grants list cred owner group want ≡ true
+unfolding inherited_list
 inherited_narrows list cred owner group mode want h =
-    changed_grants (λ e. limited_to e.perm (bits_for (class_tag list) mode e.tag)) (λ e. limited_within e.perm (bits_for (class_tag list) mode e.tag)) list cred owner group want h
+    with_perm_grants (λ e. limit_to e.perm (bits_for (class_tag list) mode e.tag)) (λ e. limited_within e.perm (bits_for (class_tag list) mode e.tag)) list cred owner group want h

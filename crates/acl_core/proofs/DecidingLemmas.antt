@@ -11,11 +11,11 @@ use Rattle.acl_core.specs.declared.entry.Entry.{Entry}
 use Rattle.acl_core.specs.Perm.{has_all}
 use Rattle.acl_core.specs.Entry.{same_tag, has_tag, perms_at, perms_where}
 use Rattle.acl_core.specs.Acl.{has_twice, IsAcl}
-use Rattle.acl_core.specs.Deciding.{matches_group, limited_by, mask_has, without_mask, grants}
-use Rattle.acl_core.proofs.Tags.{same_tag-true, same_tag-itself, entries_with, entries_with_once}
-use Rattle.acl_core.proofs.Order.{In, in_from_contains}
-use Rattle.acl_core.proofs.Faults.{valid_from_no_fault}
-use Rattle.acl_core.proofs.Walked.{any_limited}
+use Rattle.acl_core.specs.Deciding.{matches_group, limit_by, mask_has, without_mask, grants}
+use Rattle.acl_core.proofs.TagLemmas.{same_tag-true, same_tag-itself, entries_with, entries_with_once}
+use Rattle.acl_core.proofs.OrderLemmas.{In, in_from_contains}
+use Rattle.acl_core.proofs.FaultLemmas.{valid_from_no_fault}
+use Rattle.acl_core.proofs.WalkLemmas.{any_limited}
 
 -- an entry that is there has its tag there
 in_has_tag : (e : Entry) (list : List Entry) → In e list → has_tag e.tag list ≡ true
@@ -61,7 +61,7 @@ entry_alone e list once i =
 
 -- permissions under the mask have the bits where the mask has them too
 limited_is : (list : List Entry) (perms : List Perm) (want : Perm) → has_twice list ≡ false
-    → list_any (λ p. has_all p want) (limited_by (perms_at Mask list) perms) ≡ (list_any (λ p. has_all p want) perms && mask_has list want)
+    → list_any (λ p. has_all p want) (limit_by (perms_at Mask list) perms) ≡ (list_any (λ p. has_all p want) perms && mask_has list want)
 limited_is list perms want once =
     elim (entries_with_once Mask list once) [
       | inl none ↦ rw none (sym (and-true (list_any (λ p. has_all p want) perms)))
@@ -162,7 +162,7 @@ no_mask_left (e ∷ list) =
     ]
 
 -- what the mask limits has the bits before
-unlimited : (masks perms : List Perm) (want : Perm) → list_any (λ p. has_all p want) (limited_by masks perms) ≡ true → list_any (λ p. has_all p want) perms ≡ true
+unlimited : (masks perms : List Perm) (want : Perm) → list_any (λ p. has_all p want) (limit_by masks perms) ≡ true → list_any (λ p. has_all p want) perms ≡ true
 unlimited [] perms want h = h
 unlimited (mask ∷ masks) perms want h = (and_parts _ _ (sym (any_limited mask want perms) ∙ h)).0
 
@@ -181,11 +181,11 @@ mask_narrows list cred owner group want h =
       | inl owns ↦ let h : list_any (λ p. has_all p want) (perms_at UserObj list) ≡ true = rw owns at h in rw (owns, owners) h
       | inr stranger ↦ elim (cases_Bool (has_tag (User cred.uid) list)) [
         | inl named ↦
-            let h : list_any (λ p. has_all p want) (limited_by (perms_at Mask list) (perms_at (User cred.uid) list)) ≡ true = rw (stranger, named) at h in
+            let h : list_any (λ p. has_all p want) (limit_by (perms_at Mask list) (perms_at (User cred.uid) list)) ≡ true = rw (stranger, named) at h in
             rw (stranger, has_user, named, no_mask_left list, users) (unlimited (perms_at Mask list) (perms_at (User cred.uid) list) want h)
         | inr unnamed ↦ elim (cases_Bool (list_any (λ e. matches_group cred group e.tag) list)) [
           | inl matches ↦
-              let h : list_any (λ p. has_all p want) (limited_by (perms_at Mask list) (perms_where (matches_group cred group) list)) ≡ true = rw (stranger, unnamed, matches) at h in
+              let h : list_any (λ p. has_all p want) (limit_by (perms_at Mask list) (perms_where (matches_group cred group) list)) ≡ true = rw (stranger, unnamed, matches) at h in
               rw (stranger, has_user, unnamed, has_group, matches, no_mask_left list, groups) (unlimited (perms_at Mask list) (perms_where (matches_group cred group) list) want h)
           | inr none ↦
               let h : list_any (λ p. has_all p want) (perms_at Other list) ≡ true = rw (stranger, unnamed, none) at h in

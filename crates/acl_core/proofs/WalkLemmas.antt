@@ -13,9 +13,9 @@ use Rattle.acl_core.specs.declared.walk.Findings.{Findings}
 use Rattle.acl_core.specs.Perm.{has_all, common}
 use Rattle.acl_core.specs.Entry.{same_tag, has_tag, perms_at}
 use Rattle.acl_core.specs.Acl.{has_twice}
-use Rattle.acl_core.specs.Deciding.{matches_group, limited_by, grants}
-use Rattle.acl_core.specs.Walk.{either, noted, nothing_found, answer_of, decided}
-use Rattle.acl_core.proofs.Tags.{entries_with, has_some, list_any_is, entries_with_once}
+use Rattle.acl_core.specs.Deciding.{matches_group, limit_by, grants}
+use Rattle.acl_core.specs.Walk.{either, with_entry, nothing_found, answer_of, answer}
+use Rattle.acl_core.proofs.TagLemmas.{entries_with, has_some, list_any_is, entries_with_once}
 
 -- what the last entry says, or else what was said before
 abbrev pub last : {V : Type 0} → (Entry → V) → V → List Entry → V
@@ -70,27 +70,27 @@ module _ (cred : Cred) (group : ℕ) (want : Perm) where
 
   -- what a walk finds from some findings on
   abbrev pub walked : Findings → List Entry → Findings
-  walked found list = fold (noted cred group want) found list
+  walked found list = fold (with_entry cred group want) found list
 
   -- the owner's entry that is found last
   walked-owner : (found : Findings) (list : List Entry) → (walked found list).owner ≡ last_where (λ t. same_tag t UserObj) covers found.owner list
   walked-owner found [] = refl
-  walked-owner found (e ∷ list) = walked-owner (noted cred group want found e) list
+  walked-owner found (e ∷ list) = walked-owner (with_entry cred group want found e) list
 
   -- the user's entry that is found last
   walked-user : (found : Findings) (list : List Entry) → (walked found list).user ≡ last_where (λ t. same_tag t (User cred.uid)) (λ e. Some (covers e)) found.user list
   walked-user found [] = refl
-  walked-user found (e ∷ list) = walked-user (noted cred group want found e) list
+  walked-user found (e ∷ list) = walked-user (with_entry cred group want found e) list
 
   -- the mask that is found last
   walked-mask : (found : Findings) (list : List Entry) → (walked found list).mask ≡ last_where (λ t. same_tag t Mask) covers found.mask list
   walked-mask found [] = refl
-  walked-mask found (e ∷ list) = walked-mask (noted cred group want found e) list
+  walked-mask found (e ∷ list) = walked-mask (with_entry cred group want found e) list
 
   -- others' entry that is found last
   walked-other : (found : Findings) (list : List Entry) → (walked found list).other ≡ last_where (λ t. same_tag t Other) covers found.other list
   walked-other found [] = refl
-  walked-other found (e ∷ list) = walked-other (noted cred group want found e) list
+  walked-other found (e ∷ list) = walked-other (with_entry cred group want found e) list
 
   -- the groups so far, and those of the list
   abbrev pub groups_after : Option Bool → List Entry → Option Bool
@@ -100,7 +100,7 @@ module _ (cred : Cred) (group : ℕ) (want : Perm) where
   -- the groups that are found, one after another
   walked-groups : (found : Findings) (list : List Entry) → (walked found list).groups ≡ groups_after found.groups list
   walked-groups found [] = refl
-  walked-groups found (e ∷ list) = walked-groups (noted cred group want found e) list
+  walked-groups found (e ∷ list) = walked-groups (with_entry cred group want found e) list
 
   -- one of two groups, or one before them
   either-either : (o : Option Bool) (b c : Bool) → either (either o b) c ≡ either o (b || c)
@@ -153,7 +153,7 @@ module _ (cred : Cred) (group : ℕ) (want : Perm) where
         ]
 
     -- permissions under the mask
-    masked : (ps : List Perm) → any_has (limited_by (perms_at Mask list) ps) ≡ (any_has ps && last covers true (entries_with Mask list))
+    masked : (ps : List Perm) → any_has (limit_by (perms_at Mask list) ps) ≡ (any_has ps && last covers true (entries_with Mask list))
     masked ps =
         elim (entries_with_once Mask list once) [
           | inl none ↦ rw none (sym (and-true (any_has ps)))
@@ -182,8 +182,8 @@ module _ (cred : Cred) (group : ℕ) (want : Perm) where
     abbrev pub deciding_if : Bool → List Perm
     deciding_if is_owner =
         cond is_owner (perms_at UserObj list)
-        (cond (has_tag (User cred.uid) list) (limited_by (perms_at Mask list) (perms_at (User cred.uid) list))
-        (cond (list_any (λ e. matches_group cred group e.tag) list) (limited_by (perms_at Mask list) (perms matching))
+        (cond (has_tag (User cred.uid) list) (limit_by (perms_at Mask list) (perms_at (User cred.uid) list))
+        (cond (list_any (λ e. matches_group cred group e.tag) list) (limit_by (perms_at Mask list) (perms matching))
         (perms_at Other list)))
 
     some_or_none : (xs : List Entry) → (xs ≡ []) ⊎ ((e : Entry) × (rest : List Entry) × (xs ≡ e ∷ rest))
@@ -191,7 +191,7 @@ module _ (cred : Cred) (group : ℕ) (want : Perm) where
     some_or_none (e ∷ rest) = inr (e, rest, refl)
 
     -- of others than the owner and the named user
-    by_groups : answer_of None found.groups found ≡ any_has (cond (list_any (λ e. matches_group cred group e.tag) list) (limited_by (perms_at Mask list) (perms matching)) (perms_at Other list))
+    by_groups : answer_of None found.groups found ≡ any_has (cond (list_any (λ e. matches_group cred group e.tag) list) (limit_by (perms_at Mask list) (perms matching)) (perms_at Other list))
     by_groups =
         elim (some_or_none matching) [
           | inl none ↦
@@ -202,7 +202,7 @@ module _ (cred : Cred) (group : ℕ) (want : Perm) where
               rw (groups, list_any_is (λ e. matches_group cred group e.tag) list, ap has_some some.2) (ap (λ m. any_has (perms matching) && m) found_mask ∙ sym (masked (perms matching)))
         ]
 
-    decided_is : (is_owner : Bool) → decided is_owner found ≡ any_has (deciding_if is_owner)
+    decided_is : (is_owner : Bool) → answer is_owner found ≡ any_has (deciding_if is_owner)
     decided_is true = found_owner
     decided_is false =
         elim (entries_with_once (User cred.uid) list once) [
@@ -215,7 +215,7 @@ module _ (cred : Cred) (group : ℕ) (want : Perm) where
         ]
 
 -- a walk over a list without repeats decides as the definition does
-pub decided_grants : (cred : Cred) (owner group : ℕ) (want : Perm) (list : List Entry) → has_twice list ≡ false
-    → decided (eqb cred.uid owner) (fold (noted cred group want) nothing_found list) ≡ grants list cred owner group want
+pub answer_grants : (cred : Cred) (owner group : ℕ) (want : Perm) (list : List Entry) → has_twice list ≡ false
+    → answer (eqb cred.uid owner) (fold (with_entry cred group want) nothing_found list) ≡ grants list cred owner group want
 unfolding grants
-decided_grants cred owner group want list once = decided_is cred group want list once (eqb cred.uid owner)
+answer_grants cred owner group want list once = decided_is cred group want list once (eqb cred.uid owner)

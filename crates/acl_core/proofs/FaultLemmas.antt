@@ -10,7 +10,7 @@ use Rattle.acl_core.specs.declared.entry.Tag.{Tag}
 use Rattle.acl_core.specs.declared.entry.Tag.TheVariants.{UserObj, GroupObj, Mask, Other}
 use Rattle.acl_core.specs.Entry.{same_tag, has_tag}
 use Rattle.acl_core.specs.Acl.{has_twice, has_required, is_named, has_named, fault_of, in_order, list_or_fault, acl_of, IsAcl}
-use Rattle.acl_core.proofs.Order.{in_order_permutes, any_in_order, in_order_ordered, once_permutation, ordered_same, in_permutation, sorted_tags}
+use Rattle.acl_core.proofs.OrderLemmas.{in_order_permutes, any_in_order, in_order_ordered, once_permutation, ordered_same, in_permutation, sorted_tags}
 
 -- a test that found no fault
 passed : (b : Bool) (fault : AclFault) (rest : Option AclFault) → cond b (Some fault) rest ≡ None → (b ≡ false) × (rest ≡ None)
@@ -56,7 +56,7 @@ in_order_is_acl list h =
         required = rw (has UserObj, has GroupObj, has Other) v.required;
         masked = rw (named, has Mask) v.masked;
       });
-      ordered = sorted_tags (in_order list) (in_order_ordered list v.once);
+      order = sorted_tags (in_order list) (in_order_ordered list v.once);
     }
 
 -- ---- the same entries in another order

@@ -5,8 +5,9 @@ use Rattle.std.specs.Char.{is_ascii_digit}
 use Rattle.std.specs.Fmt.{decimal}
 use Rattle.std.proofs.lemmas.Bool.{cases_Bool, cases_lt, and_parts, and_from, eqb-true, eqb-false, ne_eqb, ltb-true, lt-ltb, leb-true, le-leb}
 use Rattle.std.proofs.lemmas.Fmt.{decimal_digit, decimal_step, decimal_by_steps}
-use Rattle.acl_core.specs.Reading.{◌>>=◌, byte_at, with_digit, digits_at, number_at, numbered_at}
-use Rattle.acl_core.proofs.Parse.{FaultIn, Reads, bind_ok, bind_err, byte_found, byte_differs, byte_missing}
+use Rattle.acl_core.specs.Reading.{◌>>=◌, byte_at, with_digit, digits_at, number_at, numbered_at, stop_at}
+use Rattle.acl_core.specs.declared.fault.Stop.{Stop}
+use Rattle.acl_core.proofs.ReaderLemmas.{FaultIn, Reads, bind_ok, bind_err, byte_found, byte_differs, byte_missing}
 
 -- a digit is between 48 and 57
 digit_range : (b : ℕ) → is_ascii_digit b ≡ true → (48 ≤ b) × (b ≤ 57)
@@ -26,14 +27,14 @@ abbrev pub NoDigit : List ℕ → Type 0
 NoDigit bytes = (b : ℕ) (rest : List ℕ) → bytes ≡ b ∷ rest → is_ascii_digit b ≡ false
 
 -- the text of a number with more after it, whose first byte is a digit too many
-pub record Overflows (text : List ℕ) (left : ℕ) : Type 0 where
+pub record Overflows (text : List ℕ) (stop : Stop) : Type 0 where
   pub n : ℕ
   pub b : ℕ
   pub back : List ℕ
   pub some : 1 ≤ n
   pub fits : n < 2 ^ 32
   pub parts : text ≡ decimal n ++ b ∷ back
-  pub size : length (b ∷ back) ≡ left
+  pub place : stop_at (b ∷ back) ≡ stop
   pub digit : is_ascii_digit b ≡ true
   pub much : ltb (with_digit n b) (2 ^ 32) ≡ false
 
@@ -59,33 +60,33 @@ digits_found m (b ∷ bytes) n rest some fits e =
             let f = digits_found (with_digit m b) bytes n rest (omega arith) lt on in
             let joined : decimal (with_digit m b) ++ bytes ≡ decimal m ++ b ∷ bytes = ap (λ xs. xs ++ bytes) (decimal_with m b some digit lt) ∙ append_assoc (decimal m) (b ∷ []) bytes in
             record { parts = sym joined ∙ f.parts; fits = f.fits; ends = f.ends }
-        | inr much ↦ let is : ◌≡◌ {A = Result (ℕ × List ℕ) ℕ} (Err (length (b ∷ bytes))) (Ok (n, rest)) = rw (digit, much) at e in absurd cc
+        | inr much ↦ let is : ◌≡◌ {A = Result (ℕ × List ℕ) Stop} (Err (stop_at (b ∷ bytes))) (Ok (n, rest)) = rw (digit, much) at e in absurd cc
       ]
       | inr other ↦
-          let is : ◌≡◌ {A = Result (ℕ × List ℕ) ℕ} (Ok (m, b ∷ bytes)) (Ok (n, rest)) = rw other at e in
+          let is : ◌≡◌ {A = Result (ℕ × List ℕ) Stop} (Ok (m, b ∷ bytes)) (Ok (n, rest)) = rw other at e in
           let same : ◌≡◌ {A = ℕ × List ℕ} (m, b ∷ bytes) (n, rest) = cc in
           subst (λ (x : ℕ × List ℕ). Number (decimal m ++ b ∷ bytes) x.0 x.1) same
           (record { parts = refl; fits = fits; ends = λ _ c others is. let head : b ≡ c = cc in subst (λ x. is_ascii_digit x ≡ false) head other })
     ]
 
 -- where digits have a fault, one is too many
-digits_fault : (m : ℕ) (bytes : List ℕ) (left : ℕ) → 1 ≤ m → m < 2 ^ 32 → digits_at m bytes ≡ Err left → Overflows (decimal m ++ bytes) left
+digits_fault : (m : ℕ) (bytes : List ℕ) (stop : Stop) → 1 ≤ m → m < 2 ^ 32 → digits_at m bytes ≡ Err stop → Overflows (decimal m ++ bytes) stop
 unfolding digits_at
-digits_fault m [] left some fits e = absurd cc
-digits_fault m (b ∷ bytes) left some fits e =
+digits_fault m [] stop some fits e = absurd cc
+digits_fault m (b ∷ bytes) stop some fits e =
     elim (cases_Bool (is_ascii_digit b)) [
       | inl digit ↦ elim (cases_Bool (ltb (with_digit m b) (2 ^ 32))) [
         | inl below ↦
-            let on : digits_at (with_digit m b) bytes ≡ Err left = rw (digit, below) at e in
+            let on : digits_at (with_digit m b) bytes ≡ Err stop = rw (digit, below) at e in
             let range = digit_range b digit in
             let lt = ltb-true _ _ below in
             let joined : decimal (with_digit m b) ++ bytes ≡ decimal m ++ b ∷ bytes = ap (λ xs. xs ++ bytes) (decimal_with m b some digit lt) ∙ append_assoc (decimal m) (b ∷ []) bytes in
-            subst (λ xs. Overflows xs left) joined (digits_fault (with_digit m b) bytes left (omega arith) lt on)
+            subst (λ xs. Overflows xs stop) joined (digits_fault (with_digit m b) bytes stop (omega arith) lt on)
         | inr much ↦
-            let is : ◌≡◌ {A = Result (ℕ × List ℕ) ℕ} (Err (length (b ∷ bytes))) (Err left) = rw (digit, much) at e in
-            record { n = m; b = b; back = bytes; some = some; fits = fits; parts = refl; size = cc; digit = digit; much = much }
+            let is : ◌≡◌ {A = Result (ℕ × List ℕ) Stop} (Err (stop_at (b ∷ bytes))) (Err stop) = rw (digit, much) at e in
+            record { n = m; b = b; back = bytes; some = some; fits = fits; parts = refl; place = cc; digit = digit; much = much }
       ]
-      | inr other ↦ let is : ◌≡◌ {A = Result (ℕ × List ℕ) ℕ} (Ok (m, b ∷ bytes)) (Err left) = rw other at e in absurd cc
+      | inr other ↦ let is : ◌≡◌ {A = Result (ℕ × List ℕ) Stop} (Ok (m, b ∷ bytes)) (Err stop) = rw other at e in absurd cc
     ]
 
 -- a byte between 48 and 57 is a digit
@@ -98,7 +99,7 @@ unfolding digits_at
 digits_step n b more digit below = rw (digit, lt-ltb (with_digit n b) (2 ^ 32) below) refl
 
 -- a digit too many is a fault
-digits_overflow : (n b : ℕ) (more : List ℕ) → is_ascii_digit b ≡ true → ltb (with_digit n b) (2 ^ 32) ≡ false → digits_at n (b ∷ more) ≡ Err (length (b ∷ more))
+digits_overflow : (n b : ℕ) (more : List ℕ) → is_ascii_digit b ≡ true → ltb (with_digit n b) (2 ^ 32) ≡ false → digits_at n (b ∷ more) ≡ Err (stop_at (b ∷ more))
 unfolding digits_at
 digits_overflow n b more digit much = rw (digit, much) refl
 
@@ -150,7 +151,7 @@ number_found [] n rest e = absurd cc
 number_found (b ∷ bytes) n rest e =
     elim (cases_Bool (eqb b 48)) [
       | inl is_zero ↦
-          let is : ◌≡◌ {A = Result (ℕ × List ℕ) ℕ} (Ok (0, bytes)) (Ok (n, rest)) = rw is_zero at e in
+          let is : ◌≡◌ {A = Result (ℕ × List ℕ) Stop} (Ok (0, bytes)) (Ok (n, rest)) = rw is_zero at e in
           let same : ◌≡◌ {A = ℕ × List ℕ} (0, bytes) (n, rest) = cc in
           let head = eqb-true b 48 is_zero in
           subst (λ (x : ℕ × List ℕ). Number (b ∷ bytes) x.0 x.1) same (record {
@@ -167,35 +168,35 @@ number_found (b ∷ bytes) n rest e =
             let same : 48 + (b - 48) ≡ b = omega arith in
             let whole : decimal (b - 48) ++ bytes ≡ b ∷ bytes = rw (decimal_digit (b - 48) (omega arith), same) refl in
             record { parts = sym whole ∙ f.parts; fits = f.fits; ends = f.ends }
-        | inr other ↦ let is : ◌≡◌ {A = Result (ℕ × List ℕ) ℕ} (Err (length (b ∷ bytes))) (Ok (n, rest)) = rw (nonzero, other) at e in absurd cc
+        | inr other ↦ let is : ◌≡◌ {A = Result (ℕ × List ℕ) Stop} (Err (stop_at (b ∷ bytes))) (Ok (n, rest)) = rw (nonzero, other) at e in absurd cc
       ]
     ]
 
 -- no digit stands where a number begins
-pub record NoNumber (text : List ℕ) (left : ℕ) : Type 0 where
-  pub size : length text ≡ left
-  pub missing : (b : ℕ) (rest other : List ℕ) → text ≡ b ∷ rest → number_at (b ∷ other) ≡ Err (length (b ∷ other))
+pub record NoNumber (text : List ℕ) (stop : Stop) : Type 0 where
+  pub place : stop_at text ≡ stop
+  pub missing : (b : ℕ) (rest other : List ℕ) → text ≡ b ∷ rest → number_at (b ∷ other) ≡ Err (stop_at (b ∷ other))
 
 -- where a number has its fault
-number_fault : (bytes : List ℕ) (left : ℕ) → number_at bytes ≡ Err left → NoNumber bytes left ⊎ Overflows bytes left
+number_fault : (bytes : List ℕ) (stop : Stop) → number_at bytes ≡ Err stop → NoNumber bytes stop ⊎ Overflows bytes stop
 unfolding number_at
-number_fault [] left e = inl (record { size = cc; missing = λ b rest other is. absurd cc })
-number_fault (b ∷ bytes) left e =
+number_fault [] stop e = inl (record { place = cc; missing = λ b rest other is. absurd cc })
+number_fault (b ∷ bytes) stop e =
     elim (cases_Bool (eqb b 48)) [
-      | inl is_zero ↦ let is : ◌≡◌ {A = Result (ℕ × List ℕ) ℕ} (Ok (0, bytes)) (Err left) = rw is_zero at e in absurd cc
+      | inl is_zero ↦ let is : ◌≡◌ {A = Result (ℕ × List ℕ) Stop} (Ok (0, bytes)) (Err stop) = rw is_zero at e in absurd cc
       | inr nonzero ↦ elim (cases_Bool (is_ascii_digit b)) [
         | inl digit ↦
-            let on : digits_at (b - 48) bytes ≡ Err left = rw (nonzero, digit) at e in
+            let on : digits_at (b - 48) bytes ≡ Err stop = rw (nonzero, digit) at e in
             let range = digit_range b digit in
             let other = eqb-false b 48 nonzero in
             let same : 48 + (b - 48) ≡ b = omega arith in
             let whole : decimal (b - 48) ++ bytes ≡ b ∷ bytes = rw (decimal_digit (b - 48) (omega arith), same) refl in
-            inr (subst (λ xs. Overflows xs left) whole (digits_fault (b - 48) bytes left (omega arith) (omega arith) on))
+            inr (subst (λ xs. Overflows xs stop) whole (digits_fault (b - 48) bytes stop (omega arith) (omega arith) on))
         | inr no_digit ↦
-            let is : ◌≡◌ {A = Result (ℕ × List ℕ) ℕ} (Err (length (b ∷ bytes))) (Err left) = rw (nonzero, no_digit) at e in
+            let is : ◌≡◌ {A = Result (ℕ × List ℕ) Stop} (Err (stop_at (b ∷ bytes))) (Err stop) = rw (nonzero, no_digit) at e in
             inl (record {
-              size = cc;
-              missing = λ c rest other same. let head : b ≡ c = cc in subst (λ x. number_at (x ∷ other) ≡ Err (length (x ∷ other))) head (rw (nonzero, no_digit) refl);
+              place = cc;
+              missing = λ c rest other same. let head : b ≡ c = cc in subst (λ x. number_at (x ∷ other) ≡ Err (stop_at (x ∷ other))) head (rw (nonzero, no_digit) refl);
             })
       ]
     ]
@@ -236,16 +237,16 @@ numbered_again (Some n) rest fits =
     rw e refl
 
 -- where a number and a colon have their fault
-numbered_fault : (bytes : List ℕ) (left : ℕ) → numbered_at bytes ≡ Err left → FaultIn IsNumber qualifier_text numbered_at bytes left
+numbered_fault : (bytes : List ℕ) (stop : Stop) → numbered_at bytes ≡ Err stop → FaultIn IsNumber qualifier_text numbered_at bytes stop
 unfolding numbered_at
-numbered_fault bytes left e =
-    elim (bind_err (number_at bytes) (λ n. byte_at 58 n.1 >>= λ rest. Ok (Some n.0, rest)) left e) [
-      | inl stops ↦ elim (number_fault bytes left stops) [
+numbered_fault bytes stop e =
+    elim (bind_err (number_at bytes) (λ n. byte_at 58 n.1 >>= λ rest. Ok (Some n.0, rest)) stop e) [
+      | inl stops ↦ elim (number_fault bytes stop stops) [
         | inl none ↦ record {
           front = [];
           back = bytes;
           parts = refl;
-          size = none.size;
+          place = none.place;
           begins = inl refl;
           firm = λ b rest other is. rw (none.missing b rest other is) refl;
         }
@@ -253,33 +254,33 @@ numbered_fault bytes left e =
           front = decimal over.n;
           back = over.b ∷ over.back;
           parts = over.parts;
-          size = over.size;
+          place = over.place;
           begins = inr (Some over.n, codes ":", over.fits, refl);
           firm = λ b rest other is.
               let head : over.b ≡ b = cc in
-              let stopped : digits_at over.n (over.b ∷ other) ≡ Err (length (over.b ∷ other)) = digits_overflow over.n over.b other over.digit over.much in
-              let whole : number_at (decimal over.n ++ over.b ∷ other) ≡ Err (length (over.b ∷ other)) = number_more over.n over.some over.fits (over.b ∷ other) ∙ stopped in
-              subst (λ x. numbered_at (decimal over.n ++ x ∷ other) ≡ Err (length (x ∷ other))) head (rw whole refl);
+              let stopped : digits_at over.n (over.b ∷ other) ≡ Err (stop_at (over.b ∷ other)) = digits_overflow over.n over.b other over.digit over.much in
+              let whole : number_at (decimal over.n ++ over.b ∷ other) ≡ Err (stop_at (over.b ∷ other)) = number_more over.n over.some over.fits (over.b ∷ other) ∙ stopped in
+              subst (λ x. numbered_at (decimal over.n ++ x ∷ other) ≡ Err (stop_at (x ∷ other))) head (rw whole refl);
         }
       ]
-      | inr goes ↦ elim (bind_err (byte_at 58 goes.0.1) (λ rest. Ok (Some goes.0.0, rest)) left goes.2) [
+      | inr goes ↦ elim (bind_err (byte_at 58 goes.0.1) (λ rest. Ok (Some goes.0.0, rest)) stop goes.2) [
         | inl stops ↦
             let f = number_found bytes goes.0.0 goes.0.1 goes.1 in
-            let m = byte_missing 58 goes.0.1 left stops in
+            let m = byte_missing 58 goes.0.1 stop stops in
             record {
               front = decimal goes.0.0;
               back = goes.0.1;
               parts = f.parts;
-              size = m.0;
+              place = m.0;
               begins = inr (Some goes.0.0, codes ":", f.fits, refl);
               firm = λ b rest other is.
                   let ends : 1 ≤ goes.0.0 → NoDigit (b ∷ other) = λ some c others same. let head : b ≡ c = cc in subst (λ x. is_ascii_digit x ≡ false) head (f.ends some b rest is) in
                   rw (number_again goes.0.0 (b ∷ other) f.fits ends, byte_differs 58 b other (m.1 b rest is)) refl;
             }
-        | inr never ↦ let is : ◌≡◌ {A = Result (Option ℕ × List ℕ) ℕ} (Ok (Some goes.0.0, never.0)) (Err left) = never.2 in absurd cc
+        | inr never ↦ let is : ◌≡◌ {A = Result (Option ℕ × List ℕ) Stop} (Ok (Some goes.0.0, never.0)) (Err stop) = never.2 in absurd cc
       ]
     ]
 
 -- the reader of a number and a colon
 pub numbered_reads : Reads IsNumber qualifier_text numbered_at
-numbered_reads = record { found = numbered_found; again = numbered_again; fault = numbered_fault }
+numbered_reads = record { takes = numbered_found; again = numbered_again; fault = numbered_fault }

@@ -9,9 +9,10 @@ use Rattle.acl_core.specs.declared.entry.Tag.TheVariants.{UserObj, User, GroupOb
 use Rattle.acl_core.specs.declared.entry.Entry.{Entry}
 use Rattle.acl_core.specs.Entry.{qualifier, Fits}
 use Rattle.acl_core.specs.Text.{tag_text, perm_text, entry_text}
-use Rattle.acl_core.specs.Reading.{◌>>=◌, byte_at, word_at, number_at, numbered_at, qualifier_at, begins_as, user_tag, group_tag, tag_at, letter_at, perm_at, entry_at}
-use Rattle.acl_core.proofs.Parse.{FaultIn, Reads, byte_found, byte_again, byte_differs, byte_missing, word_reads, both_reads, done_reads, word_then_reads, same_values, none_reads, choice_reads}
-use Rattle.acl_core.proofs.Numbers.{qualifier_text, IsNumber, numbered_reads}
+use Rattle.acl_core.specs.Reading.{◌>>=◌, byte_at, word_at, number_at, numbered_at, qualifier_at, begins_as, user_tag, group_tag, tag_at, letter_at, perm_at, entry_at, stop_at}
+use Rattle.acl_core.proofs.ReaderLemmas.{FaultIn, Reads, byte_found, byte_again, byte_differs, byte_missing, word_reads, both_reads, done_reads, word_then_reads, same_values, none_reads, choice_reads}
+use Rattle.acl_core.specs.declared.fault.Stop.{Stop}
+use Rattle.acl_core.proofs.NumberLemmas.{qualifier_text, IsNumber, numbered_reads}
 
 -- ---- a colon alone, or a number and a colon
 
@@ -26,7 +27,7 @@ number_is_qualifier None v = tt
 number_is_qualifier (Some n) v = v
 
 -- what a reader answers
-either_answer : {A : Type 0} (r : Result A ℕ) → ((x : A) × (r ≡ Ok x)) ⊎ ((n : ℕ) × (r ≡ Err n))
+either_answer : {A : Type 0} (r : Result A Stop) → ((x : A) × (r ≡ Ok x)) ⊎ ((n : Stop) × (r ≡ Err n))
 either_answer (Ok x) = inl (x, refl)
 either_answer (Err n) = inr (n, refl)
 
@@ -36,7 +37,7 @@ unfolding qualifier_at
 qualifier_alone bytes rest e = rw e refl
 
 -- without a colon a number and a colon are read
-qualifier_numbered : (bytes : List ℕ) (n : ℕ) → byte_at 58 bytes ≡ Err n → qualifier_at bytes ≡ numbered_at bytes
+qualifier_numbered : (bytes : List ℕ) (n : Stop) → byte_at 58 bytes ≡ Err n → qualifier_at bytes ≡ numbered_at bytes
 unfolding qualifier_at
 qualifier_numbered bytes n e = rw e refl
 
@@ -45,16 +46,16 @@ qualifier_found : (bytes : List ℕ) (o : Option ℕ) (rest : List ℕ) → qual
 qualifier_found bytes o rest e =
     elim (either_answer (byte_at 58 bytes)) [
       | inl colon ↦
-          let is : ◌≡◌ {A = Result (Option ℕ × List ℕ) ℕ} (Ok (None, colon.0)) (Ok (o, rest)) = sym (qualifier_alone bytes colon.0 colon.1) ∙ e in
+          let is : ◌≡◌ {A = Result (Option ℕ × List ℕ) Stop} (Ok (None, colon.0)) (Ok (o, rest)) = sym (qualifier_alone bytes colon.0 colon.1) ∙ e in
           let same : ◌≡◌ {A = Option ℕ × List ℕ} (None, colon.0) (o, rest) = cc in
           subst (λ (x : Option ℕ × List ℕ). (bytes ≡ qualifier_text x.0 ++ x.1) × IsQualifier x.0) same (byte_found 58 bytes colon.0 colon.1, tt)
       | inr other ↦
-          let f = numbered_reads.found bytes o rest (sym (qualifier_numbered bytes other.0 other.1) ∙ e) in
+          let f = numbered_reads.takes bytes o rest (sym (qualifier_numbered bytes other.0 other.1) ∙ e) in
           (f.0, number_is_qualifier o f.1)
     ]
 
 -- no number begins with a colon
-colon_no_number : (rest : List ℕ) → numbered_at (58 ∷ rest) ≡ Err (length (58 ∷ rest))
+colon_no_number : (rest : List ℕ) → numbered_at (58 ∷ rest) ≡ Err (stop_at (58 ∷ rest))
 unfolding numbered_at number_at
 colon_no_number rest = refl
 
@@ -66,31 +67,31 @@ qualifier_again (Some n) rest v =
     let read = numbered_reads.again (Some n) rest v in
     elim (either_answer (byte_at 58 bytes)) [
       | inl colon ↦
-          let is : ◌≡◌ {A = Result (Option ℕ × List ℕ) ℕ} (Err (length (58 ∷ colon.0))) (Ok (Some n, rest)) = sym (colon_no_number colon.0) ∙ ap numbered_at (sym (byte_found 58 bytes colon.0 colon.1)) ∙ read in
+          let is : ◌≡◌ {A = Result (Option ℕ × List ℕ) Stop} (Err (stop_at (58 ∷ colon.0))) (Ok (Some n, rest)) = sym (colon_no_number colon.0) ∙ ap numbered_at (sym (byte_found 58 bytes colon.0 colon.1)) ∙ read in
           absurd cc
       | inr other ↦ qualifier_numbered bytes other.0 other.1 ∙ read
     ]
 
 -- the first byte of the text is still no colon
-still_missing : (bytes front back : List ℕ) (b : ℕ) (rest other : List ℕ) → ((c : ℕ) (more : List ℕ) → bytes ≡ c ∷ more → eqb c 58 ≡ false) → bytes ≡ front ++ back → back ≡ b ∷ rest → (n : ℕ) × (byte_at 58 (front ++ b ∷ other) ≡ Err n)
-still_missing bytes [] back b rest other missing parts is = (length (b ∷ other), byte_differs 58 b other (missing b rest (parts ∙ is)))
-still_missing bytes (c ∷ front) back b rest other missing parts is = (length (c ∷ (front ++ b ∷ other)), byte_differs 58 c (front ++ b ∷ other) (missing c (front ++ back) parts))
+still_missing : (bytes front back : List ℕ) (b : ℕ) (rest other : List ℕ) → ((c : ℕ) (more : List ℕ) → bytes ≡ c ∷ more → eqb c 58 ≡ false) → bytes ≡ front ++ back → back ≡ b ∷ rest → (n : Stop) × (byte_at 58 (front ++ b ∷ other) ≡ Err n)
+still_missing bytes [] back b rest other missing parts is = (stop_at (b ∷ other), byte_differs 58 b other (missing b rest (parts ∙ is)))
+still_missing bytes (c ∷ front) back b rest other missing parts is = (stop_at (c ∷ (front ++ b ∷ other)), byte_differs 58 c (front ++ b ∷ other) (missing c (front ++ back) parts))
 
 -- where a qualifier has its fault
-qualifier_fault : (bytes : List ℕ) (left : ℕ) → qualifier_at bytes ≡ Err left → FaultIn IsQualifier qualifier_text qualifier_at bytes left
-qualifier_fault bytes left e =
+qualifier_fault : (bytes : List ℕ) (stop : Stop) → qualifier_at bytes ≡ Err stop → FaultIn IsQualifier qualifier_text qualifier_at bytes stop
+qualifier_fault bytes stop e =
     elim (either_answer (byte_at 58 bytes)) [
       | inl colon ↦
-          let is : ◌≡◌ {A = Result (Option ℕ × List ℕ) ℕ} (Ok (None, colon.0)) (Err left) = sym (qualifier_alone bytes colon.0 colon.1) ∙ e in
+          let is : ◌≡◌ {A = Result (Option ℕ × List ℕ) Stop} (Ok (None, colon.0)) (Err stop) = sym (qualifier_alone bytes colon.0 colon.1) ∙ e in
           absurd cc
       | inr other ↦
-          let f = numbered_reads.fault bytes left (sym (qualifier_numbered bytes other.0 other.1) ∙ e) in
+          let f = numbered_reads.fault bytes stop (sym (qualifier_numbered bytes other.0 other.1) ∙ e) in
           let m = byte_missing 58 bytes other.0 other.1 in
           record {
             front = f.front;
             back = f.back;
             parts = f.parts;
-            size = f.size;
+            place = f.place;
             begins = elim f.begins [ inl none ↦ inl none | inr begun ↦ inr (begun.0, begun.1, number_is_qualifier begun.0 begun.2, begun.3) ];
             firm = λ b rest more is.
                 let s = still_missing bytes f.front f.back b rest more m.1 f.parts is in
@@ -100,7 +101,7 @@ qualifier_fault bytes left e =
 
 -- the reader of a qualifier
 pub qualifier_reads : Reads IsQualifier qualifier_text qualifier_at
-qualifier_reads = record { found = qualifier_found; again = qualifier_again; fault = qualifier_fault }
+qualifier_reads = record { takes = qualifier_found; again = qualifier_again; fault = qualifier_fault }
 
 -- ---- tags
 
@@ -266,20 +267,20 @@ kinds_fit tag v =
     ]
 
 -- the choices, from the last to the first
-abbrev pub other_at : List ℕ → Result (Tag × List ℕ) ℕ
-other_at bytes = cond (begins_as (codes "other::") bytes) (word_at (codes "other::") bytes >>= λ rest. Ok (Other, rest)) (Err (length bytes))
+abbrev pub other_at : List ℕ → Result (Tag × List ℕ) Stop
+other_at bytes = cond (begins_as (codes "other::") bytes) (word_at (codes "other::") bytes >>= λ rest. Ok (Other, rest)) (Err (stop_at bytes))
 
 -- the mask, or other
-abbrev pub last_at : List ℕ → Result (Tag × List ℕ) ℕ
+abbrev pub last_at : List ℕ → Result (Tag × List ℕ) Stop
 last_at bytes = cond (begins_as (codes "mask::") bytes) (word_at (codes "mask::") bytes >>= λ rest. Ok (Mask, rest)) (other_at bytes)
 
 -- a tag of groups, or the mask or other
-abbrev pub group_at : List ℕ → Result (Tag × List ℕ) ℕ
+abbrev pub group_at : List ℕ → Result (Tag × List ℕ) Stop
 group_at bytes = cond (begins_as (codes "group:") bytes) (word_at (codes "group:") bytes >>= λ rest. qualifier_at rest >>= λ gid. Ok (group_tag gid.0, gid.1)) (last_at bytes)
 
 -- the reader of other
 other_reads : Reads (λ tag. (tag ≡ Other) ⊎ ⊥) tag_text other_at
-other_reads = choice_reads (codes "other::") tag_text (λ tag. tag ≡ Other) (λ _. ⊥) (λ bytes. word_at (codes "other::") bytes >>= λ rest. Ok (Other, rest)) (λ bytes. Err (length bytes))
+other_reads = choice_reads (codes "other::") tag_text (λ tag. tag ≡ Other) (λ _. ⊥) (λ bytes. word_at (codes "other::") bytes >>= λ rest. Ok (Other, rest)) (λ bytes. Err (stop_at bytes))
     (alone_reads (codes "other::") Other refl) (none_reads tag_text) (λ tag rest is. rw is refl) (λ tag rest none. absurd none)
 
 -- the reader of the mask and other
@@ -319,18 +320,18 @@ letter_found c [] set rest e = absurd cc
 letter_found c (b ∷ bytes) set rest e =
     elim (cases_Bool (eqb b c)) [
       | inl is_set ↦
-          let is : ◌≡◌ {A = Result (Bool × List ℕ) ℕ} (Ok (true, bytes)) (Ok (set, rest)) = rw is_set at e in
+          let is : ◌≡◌ {A = Result (Bool × List ℕ) Stop} (Ok (true, bytes)) (Ok (set, rest)) = rw is_set at e in
           let same : ◌≡◌ {A = Bool × List ℕ} (true, bytes) (set, rest) = cc in
           let head = eqb-true b c is_set in
           subst (λ (x : Bool × List ℕ). (b ∷ bytes ≡ letter_text c x.0 ++ x.1) × Any x.0) same (ap (λ h. h ∷ bytes) head, tt)
       | inr other ↦ elim (cases_Bool (eqb b 45)) [
         | inl dash ↦
-            let is : ◌≡◌ {A = Result (Bool × List ℕ) ℕ} (Ok (false, bytes)) (Ok (set, rest)) = rw (other, dash) at e in
+            let is : ◌≡◌ {A = Result (Bool × List ℕ) Stop} (Ok (false, bytes)) (Ok (set, rest)) = rw (other, dash) at e in
             let same : ◌≡◌ {A = Bool × List ℕ} (false, bytes) (set, rest) = cc in
             let head = eqb-true b 45 dash in
             subst (λ (x : Bool × List ℕ). (b ∷ bytes ≡ letter_text c x.0 ++ x.1) × Any x.0) same (ap (λ h. h ∷ bytes) head, tt)
         | inr neither ↦
-            let is : ◌≡◌ {A = Result (Bool × List ℕ) ℕ} (Err (length (b ∷ bytes))) (Ok (set, rest)) = rw (other, neither) at e in
+            let is : ◌≡◌ {A = Result (Bool × List ℕ) Stop} (Err (stop_at (b ∷ bytes))) (Ok (set, rest)) = rw (other, neither) at e in
             absurd cc
       ]
     ]
@@ -341,31 +342,31 @@ letter_again c no_dash true rest v = rw (eq-eqb c c refl) refl
 letter_again c no_dash false rest v = rw no_dash refl
 
 -- where a letter has its fault
-letter_fault : (c : ℕ) (bytes : List ℕ) (left : ℕ) → letter_at c bytes ≡ Err left → FaultIn Any (letter_text c) (letter_at c) bytes left
-letter_fault c [] left e = record { front = []; back = []; parts = refl; size = cc; begins = inl refl; firm = λ b rest other is. absurd cc }
-letter_fault c (b ∷ bytes) left e =
+letter_fault : (c : ℕ) (bytes : List ℕ) (stop : Stop) → letter_at c bytes ≡ Err stop → FaultIn Any (letter_text c) (letter_at c) bytes stop
+letter_fault c [] stop e = record { front = []; back = []; parts = refl; place = cc; begins = inl refl; firm = λ b rest other is. absurd cc }
+letter_fault c (b ∷ bytes) stop e =
     elim (cases_Bool (eqb b c)) [
-      | inl is_set ↦ let is : ◌≡◌ {A = Result (Bool × List ℕ) ℕ} (Ok (true, bytes)) (Err left) = rw is_set at e in absurd cc
+      | inl is_set ↦ let is : ◌≡◌ {A = Result (Bool × List ℕ) Stop} (Ok (true, bytes)) (Err stop) = rw is_set at e in absurd cc
       | inr other ↦ elim (cases_Bool (eqb b 45)) [
-        | inl dash ↦ let is : ◌≡◌ {A = Result (Bool × List ℕ) ℕ} (Ok (false, bytes)) (Err left) = rw (other, dash) at e in absurd cc
+        | inl dash ↦ let is : ◌≡◌ {A = Result (Bool × List ℕ) Stop} (Ok (false, bytes)) (Err stop) = rw (other, dash) at e in absurd cc
         | inr neither ↦
-            let is : ◌≡◌ {A = Result (Bool × List ℕ) ℕ} (Err (length (b ∷ bytes))) (Err left) = rw (other, neither) at e in
+            let is : ◌≡◌ {A = Result (Bool × List ℕ) Stop} (Err (stop_at (b ∷ bytes))) (Err stop) = rw (other, neither) at e in
             record {
               front = [];
               back = b ∷ bytes;
               parts = refl;
-              size = cc;
+              place = cc;
               begins = inl refl;
               firm = λ d rest more same.
                   let head : b ≡ d = cc in
-                  subst (λ x. letter_at c (x ∷ more) ≡ Err (length (x ∷ more))) head (rw (other, neither) refl);
+                  subst (λ x. letter_at c (x ∷ more) ≡ Err (stop_at (x ∷ more))) head (rw (other, neither) refl);
             }
       ]
     ]
 
 -- the reader of a letter
 letter_reads : (c : ℕ) → eqb 45 c ≡ false → Reads Any (letter_text c) (letter_at c)
-letter_reads c no_dash = record { found = letter_found c; again = letter_again c no_dash; fault = letter_fault c }
+letter_reads c no_dash = record { takes = letter_found c; again = letter_again c no_dash; fault = letter_fault c }
 
 -- the letters from the last to the first
 exec_reads : (r w : Bool) → Reads (λ (p : Perm). p ≡ record { read = r; write = w; exec = p.exec }) (λ p. letter_text 120 p.exec) (λ bytes. letter_at 120 bytes >>= λ x. Ok (record { read = r; write = w; exec = x.0 }, x.1))

@@ -12,8 +12,8 @@ use Rattle.acl_core.specs.declared.entry.Entry.{Entry}
 use Rattle.acl_core.specs.declared.perm.Perm.{Perm}
 use Rattle.acl_core.specs.Entry.{Fits, qualifier}
 use Rattle.acl_core.specs.Text.{tag_text, perm_text, entry_text, next_text, list_text, HasText, IsWord}
-use Rattle.acl_core.proofs.Decimals.{length-decimal_32}
-use Rattle.acl_core.proofs.Texts.{list_text-cons}
+use Rattle.acl_core.proofs.DecimalLemmas.{length-decimal_32}
+use Rattle.acl_core.proofs.TextLemmas.{list_text-cons}
 
 -- each byte has a glyph and is no blank
 abbrev pub Graphic : List ℕ → Type 0
