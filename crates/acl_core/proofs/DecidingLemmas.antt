@@ -22,7 +22,8 @@ in_has_tag : (e : Entry) (list : List Entry) → In e list → has_tag e.tag lis
 in_has_tag e [] i = absurd i
 in_has_tag e (f ∷ list) i =
     elim i [
-      | inl here ↦ let same : same_tag f.tag e.tag ≡ true = subst (λ (g : Entry). same_tag g.tag e.tag ≡ true) (sym here) (same_tag-itself e.tag) in rw same refl
+      | inl here ↦
+          let same : same_tag f.tag e.tag ≡ true = subst (λ (g : Entry). same_tag g.tag e.tag ≡ true) (sym here) (same_tag-itself e.tag) in rw same refl
       | inr there ↦ rw (in_has_tag e list there) (or_true (same_tag f.tag e.tag))
     ]
   where
@@ -83,7 +84,8 @@ owner_alone list cred owner group perm want acl is c =
 
 -- a user's entry decides alone, but for the mask
 pub user_alone : (list : List Entry) (cred : Cred) (owner group : ℕ) (perm want : Perm) → IsAcl list
-    → cred.uid ≢ owner → Contains list (record { tag = User cred.uid; perm = perm }) → grants list cred owner group want ≡ (has_all perm want && mask_has list want)
+    → cred.uid ≢ owner → Contains list (record { tag = User cred.uid; perm = perm })
+    → grants list cred owner group want ≡ (has_all perm want && mask_has list want)
 unfolding grants
 user_alone list cred owner group perm want acl other c =
     let e : Entry = record { tag = User cred.uid; perm = perm } in
@@ -167,16 +169,19 @@ unlimited [] perms want h = h
 unlimited (mask ∷ masks) perms want h = (and_parts _ _ (sym (any_limited mask want perms) ∙ h)).0
 
 -- what is granted with the mask is granted without it
-pub mask_narrows : (list : List Entry) (cred : Cred) (owner group : ℕ) (want : Perm) → grants list cred owner group want ≡ true → grants (without_mask list) cred owner group want ≡ true
+pub mask_narrows : (list : List Entry) (cred : Cred) (owner group : ℕ) (want : Perm) → grants list cred owner group want ≡ true
+    → grants (without_mask list) cred owner group want ≡ true
 unfolding grants
 mask_narrows list cred owner group want h =
     let user = λ (t : Tag). same_tag t (User cred.uid) in
     let owners : perms_at UserObj (without_mask list) ≡ perms_at UserObj list = perms_without (λ t. same_tag t UserObj) refl list in
     let users : perms_at (User cred.uid) (without_mask list) ≡ perms_at (User cred.uid) list = perms_without user refl list in
-    let groups : perms_where (matches_group cred group) (without_mask list) ≡ perms_where (matches_group cred group) list = perms_without (matches_group cred group) refl list in
+    let groups : perms_where (matches_group cred group) (without_mask list) ≡ perms_where (matches_group cred group) list =
+    perms_without (matches_group cred group) refl list in
     let others : perms_at Other (without_mask list) ≡ perms_at Other list = perms_without (λ t. same_tag t Other) refl list in
     let has_user : has_tag (User cred.uid) (without_mask list) ≡ has_tag (User cred.uid) list = any_without user refl list in
-    let has_group : list_any (λ e. matches_group cred group e.tag) (without_mask list) ≡ list_any (λ e. matches_group cred group e.tag) list = any_without (matches_group cred group) refl list in
+    let has_group : list_any (λ e. matches_group cred group e.tag) (without_mask list) ≡ list_any (λ e. matches_group cred group e.tag) list =
+    any_without (matches_group cred group) refl list in
     elim (cases_Bool (eqb cred.uid owner)) [
       | inl owns ↦ let h : list_any (λ p. has_all p want) (perms_at UserObj list) ≡ true = rw owns at h in rw (owns, owners) h
       | inr stranger ↦ elim (cases_Bool (has_tag (User cred.uid) list)) [
@@ -185,8 +190,10 @@ mask_narrows list cred owner group want h =
             rw (stranger, has_user, named, no_mask_left list, users) (unlimited (perms_at Mask list) (perms_at (User cred.uid) list) want h)
         | inr unnamed ↦ elim (cases_Bool (list_any (λ e. matches_group cred group e.tag) list)) [
           | inl matches ↦
-              let h : list_any (λ p. has_all p want) (limit_by (perms_at Mask list) (perms_where (matches_group cred group) list)) ≡ true = rw (stranger, unnamed, matches) at h in
-              rw (stranger, has_user, unnamed, has_group, matches, no_mask_left list, groups) (unlimited (perms_at Mask list) (perms_where (matches_group cred group) list) want h)
+              let h : list_any (λ p. has_all p want) (limit_by (perms_at Mask list) (perms_where (matches_group cred group) list)) ≡ true =
+              rw (stranger, unnamed, matches) at h in
+              rw (stranger, has_user, unnamed, has_group, matches, no_mask_left list, groups)
+              (unlimited (perms_at Mask list) (perms_where (matches_group cred group) list) want h)
           | inr none ↦
               let h : list_any (λ p. has_all p want) (perms_at Other list) ≡ true = rw (stranger, unnamed, none) at h in
               rw (stranger, has_user, unnamed, has_group, none, others) h

@@ -67,15 +67,18 @@ qualifier_again (Some n) rest v =
     let read = numbered_reads.again (Some n) rest v in
     elim (either_answer (byte_at 58 bytes)) [
       | inl colon ↦
-          let is : ◌≡◌ {A = Result (Option ℕ × List ℕ) Stop} (Err (stop_at (58 ∷ colon.0))) (Ok (Some n, rest)) = sym (colon_no_number colon.0) ∙ ap numbered_at (sym (byte_found 58 bytes colon.0 colon.1)) ∙ read in
+          let is : ◌≡◌ {A = Result (Option ℕ × List ℕ) Stop} (Err (stop_at (58 ∷ colon.0))) (Ok (Some n, rest)) =
+          sym (colon_no_number colon.0) ∙ ap numbered_at (sym (byte_found 58 bytes colon.0 colon.1)) ∙ read in
           absurd cc
       | inr other ↦ qualifier_numbered bytes other.0 other.1 ∙ read
     ]
 
 -- the first byte of the text is still no colon
-still_missing : (bytes front back : List ℕ) (b : ℕ) (rest other : List ℕ) → ((c : ℕ) (more : List ℕ) → bytes ≡ c ∷ more → eqb c 58 ≡ false) → bytes ≡ front ++ back → back ≡ b ∷ rest → (n : Stop) × (byte_at 58 (front ++ b ∷ other) ≡ Err n)
+still_missing : (bytes front back : List ℕ) (b : ℕ) (rest other : List ℕ) → ((c : ℕ) (more : List ℕ) → bytes ≡ c ∷ more → eqb c 58 ≡ false)
+    → bytes ≡ front ++ back → back ≡ b ∷ rest → (n : Stop) × (byte_at 58 (front ++ b ∷ other) ≡ Err n)
 still_missing bytes [] back b rest other missing parts is = (stop_at (b ∷ other), byte_differs 58 b other (missing b rest (parts ∙ is)))
-still_missing bytes (c ∷ front) back b rest other missing parts is = (stop_at (c ∷ (front ++ b ∷ other)), byte_differs 58 c (front ++ b ∷ other) (missing c (front ++ back) parts))
+still_missing bytes (c ∷ front) back b rest other missing parts is =
+    (stop_at (c ∷ (front ++ b ∷ other)), byte_differs 58 c (front ++ b ∷ other) (missing c (front ++ back) parts))
 
 -- where a qualifier has its fault
 qualifier_fault : (bytes : List ℕ) (stop : Stop) → qualifier_at bytes ≡ Err stop → FaultIn IsQualifier qualifier_text qualifier_at bytes stop
@@ -148,7 +151,8 @@ user_parted Other v = absurd v
 -- a tag of groups has its qualifier behind the word
 group_joined : (o : Option ℕ) (tag : Tag) → IsQualifier o → tag ≡ group_tag o → IsGroup tag × (group_rest tag ≡ qualifier_text o ++ [])
 group_joined None tag v is = subst (λ t. IsGroup t × (group_rest t ≡ qualifier_text None ++ [])) (sym is) (tt, refl)
-group_joined (Some n) tag v is = subst (λ t. IsGroup t × (group_rest t ≡ qualifier_text (Some n) ++ [])) (sym is) (v, sym (append-nil (qualifier_text (Some n))))
+group_joined (Some n) tag v is =
+    subst (λ t. IsGroup t × (group_rest t ≡ qualifier_text (Some n) ++ [])) (sym is) (v, sym (append-nil (qualifier_text (Some n))))
 
 -- a tag of groups has a qualifier
 group_parted : (tag : Tag) → IsGroup tag → (o : Option ℕ) × IsQualifier o × (tag ≡ group_tag o)
@@ -161,12 +165,14 @@ group_parted Other v = absurd v
 
 -- the reader of what follows `user:`
 user_rest_reads : Reads IsUser user_rest (λ bytes. qualifier_at bytes >>= λ uid. Ok (user_tag uid.0, uid.1))
-user_rest_reads = both_reads IsQualifier qualifier_text qualifier_at (λ o tag. tag ≡ user_tag o) (λ _ _. []) (λ o bytes. Ok (user_tag o, bytes)) IsUser user_rest
+user_rest_reads =
+    both_reads IsQualifier qualifier_text qualifier_at (λ o tag. tag ≡ user_tag o) (λ _ _. []) (λ o bytes. Ok (user_tag o, bytes)) IsUser user_rest
     qualifier_reads (λ o _. done_reads (user_tag o)) user_joined user_parted (λ o _. (user_tag o, refl))
 
 -- the reader of what follows `group:`
 group_rest_reads : Reads IsGroup group_rest (λ bytes. qualifier_at bytes >>= λ gid. Ok (group_tag gid.0, gid.1))
-group_rest_reads = both_reads IsQualifier qualifier_text qualifier_at (λ o tag. tag ≡ group_tag o) (λ _ _. []) (λ o bytes. Ok (group_tag o, bytes)) IsGroup group_rest
+group_rest_reads =
+    both_reads IsQualifier qualifier_text qualifier_at (λ o tag. tag ≡ group_tag o) (λ _ _. []) (λ o bytes. Ok (group_tag o, bytes)) IsGroup group_rest
     qualifier_reads (λ o _. done_reads (group_tag o)) group_joined group_parted (λ o _. (group_tag o, refl))
 
 -- the text of a tag of users is its word and the rest
@@ -189,12 +195,14 @@ group_text Other v = absurd v
 
 -- the reader of tags of users
 user_reads : Reads IsUser tag_text (λ bytes. word_at (codes "user:") bytes >>= λ rest. qualifier_at rest >>= λ uid. Ok (user_tag uid.0, uid.1))
-user_reads = word_then_reads (codes "user:") (word_at (codes "user:")) user_rest (λ rest. qualifier_at rest >>= λ uid. Ok (user_tag uid.0, uid.1)) IsUser tag_text
+user_reads =
+    word_then_reads (codes "user:") (word_at (codes "user:")) user_rest (λ rest. qualifier_at rest >>= λ uid. Ok (user_tag uid.0, uid.1)) IsUser tag_text
     (word_reads (codes "user:")) user_rest_reads user_text (UserObj, tt)
 
 -- the reader of tags of groups
 group_reads : Reads IsGroup tag_text (λ bytes. word_at (codes "group:") bytes >>= λ rest. qualifier_at rest >>= λ gid. Ok (group_tag gid.0, gid.1))
-group_reads = word_then_reads (codes "group:") (word_at (codes "group:")) group_rest (λ rest. qualifier_at rest >>= λ gid. Ok (group_tag gid.0, gid.1)) IsGroup tag_text
+group_reads =
+    word_then_reads (codes "group:") (word_at (codes "group:")) group_rest (λ rest. qualifier_at rest >>= λ gid. Ok (group_tag gid.0, gid.1)) IsGroup tag_text
     (word_reads (codes "group:")) group_rest_reads group_text (GroupObj, tt)
 
 -- a tag that is a word alone
@@ -215,7 +223,8 @@ abbrev pub IsLast : Tag → Type 0
 IsLast tag = (tag ≡ Mask) ⊎ ((tag ≡ Other) ⊎ ⊥)
 
 -- the mask and other start with their own letters
-last_differs : (word : List ℕ) → begins_as word (codes "mask::") ≡ false → begins_as word (codes "other::") ≡ false → (tag : Tag) (rest : List ℕ) → IsLast tag → begins_as word (tag_text tag ++ rest) ≡ false
+last_differs : (word : List ℕ) → begins_as word (codes "mask::") ≡ false → begins_as word (codes "other::") ≡ false → (tag : Tag) (rest : List ℕ) → IsLast tag
+    → begins_as word (tag_text tag ++ rest) ≡ false
 last_differs [] mask other tag rest v = refl
 last_differs (b ∷ word) mask other tag rest v =
     elim v [
@@ -276,27 +285,37 @@ last_at bytes = cond (begins_as (codes "mask::") bytes) (word_at (codes "mask::"
 
 -- a tag of groups, or the mask or other
 abbrev pub group_at : List ℕ → Result (Tag × List ℕ) Stop
-group_at bytes = cond (begins_as (codes "group:") bytes) (word_at (codes "group:") bytes >>= λ rest. qualifier_at rest >>= λ gid. Ok (group_tag gid.0, gid.1)) (last_at bytes)
+group_at bytes =
+    cond (begins_as (codes "group:") bytes) (word_at (codes "group:") bytes >>= λ rest. qualifier_at rest >>= λ gid. Ok (group_tag gid.0, gid.1))
+    (last_at bytes)
 
 -- the reader of other
 other_reads : Reads (λ tag. (tag ≡ Other) ⊎ ⊥) tag_text other_at
-other_reads = choice_reads (codes "other::") tag_text (λ tag. tag ≡ Other) (λ _. ⊥) (λ bytes. word_at (codes "other::") bytes >>= λ rest. Ok (Other, rest)) (λ bytes. Err (stop_at bytes))
+other_reads =
+    choice_reads (codes "other::") tag_text (λ tag. tag ≡ Other) (λ _. ⊥) (λ bytes. word_at (codes "other::") bytes >>= λ rest. Ok (Other, rest))
+    (λ bytes. Err (stop_at bytes))
     (alone_reads (codes "other::") Other refl) (none_reads tag_text) (λ tag rest is. rw is refl) (λ tag rest none. absurd none)
 
 -- the reader of the mask and other
 last_reads : Reads IsLast tag_text last_at
-last_reads = choice_reads (codes "mask::") tag_text (λ tag. tag ≡ Mask) (λ tag. (tag ≡ Other) ⊎ ⊥) (λ bytes. word_at (codes "mask::") bytes >>= λ rest. Ok (Mask, rest)) other_at
+last_reads =
+    choice_reads (codes "mask::") tag_text (λ tag. tag ≡ Mask) (λ tag. (tag ≡ Other) ⊎ ⊥) (λ bytes. word_at (codes "mask::") bytes >>= λ rest. Ok (Mask, rest))
+    other_at
     (alone_reads (codes "mask::") Mask refl) other_reads (λ tag rest is. rw is refl) (λ tag rest v. elim v [ inl is ↦ rw is refl | inr none ↦ absurd none ])
 
 -- the reader of all but tags of users
 group_or_last_reads : Reads (λ tag. IsGroup tag ⊎ IsLast tag) tag_text group_at
-group_or_last_reads = choice_reads (codes "group:") tag_text IsGroup IsLast (λ bytes. word_at (codes "group:") bytes >>= λ rest. qualifier_at rest >>= λ gid. Ok (group_tag gid.0, gid.1)) last_at
+group_or_last_reads =
+    choice_reads (codes "group:") tag_text IsGroup IsLast
+    (λ bytes. word_at (codes "group:") bytes >>= λ rest. qualifier_at rest >>= λ gid. Ok (group_tag gid.0, gid.1)) last_at
     group_reads last_reads starts_group (λ tag rest v. last_differs (codes "group:") refl refl tag rest v)
 
 -- the reader of tags, by their kinds
 any_tag_reads : Reads (λ tag. IsUser tag ⊎ (IsGroup tag ⊎ IsLast tag)) tag_text tag_at
 unfolding tag_at
-any_tag_reads = choice_reads (codes "user:") tag_text IsUser (λ tag. IsGroup tag ⊎ IsLast tag) (λ bytes. word_at (codes "user:") bytes >>= λ rest. qualifier_at rest >>= λ uid. Ok (user_tag uid.0, uid.1)) group_at
+any_tag_reads =
+    choice_reads (codes "user:") tag_text IsUser (λ tag. IsGroup tag ⊎ IsLast tag)
+    (λ bytes. word_at (codes "user:") bytes >>= λ rest. qualifier_at rest >>= λ uid. Ok (user_tag uid.0, uid.1)) group_at
     user_reads group_or_last_reads starts_user
     (λ tag rest v. elim v [ inl group ↦ rw (group_text tag group) refl | inr last ↦ last_differs (codes "user:") refl refl tag rest last ])
 
@@ -369,23 +388,29 @@ letter_reads : (c : ℕ) → eqb 45 c ≡ false → Reads Any (letter_text c) (l
 letter_reads c no_dash = record { takes = letter_found c; again = letter_again c no_dash; fault = letter_fault c }
 
 -- the letters from the last to the first
-exec_reads : (r w : Bool) → Reads (λ (p : Perm). p ≡ record { read = r; write = w; exec = p.exec }) (λ p. letter_text 120 p.exec) (λ bytes. letter_at 120 bytes >>= λ x. Ok (record { read = r; write = w; exec = x.0 }, x.1))
+exec_reads : (r w : Bool)
+    → Reads (λ (p : Perm). p ≡ record { read = r; write = w; exec = p.exec }) (λ p. letter_text 120 p.exec)
+    (λ bytes. letter_at 120 bytes >>= λ x. Ok (record { read = r; write = w; exec = x.0 }, x.1))
 exec_reads r w = both_reads Any (letter_text 120) (letter_at 120)
     (λ x p. p ≡ record { read = r; write = w; exec = x }) (λ _ _. []) (λ x bytes. Ok (record { read = r; write = w; exec = x }, bytes))
     (λ p. p ≡ record { read = r; write = w; exec = p.exec }) (λ p. letter_text 120 p.exec)
     (letter_reads 120 refl) (λ x _. done_reads (record { read = r; write = w; exec = x }))
-    (λ x p _ is. let same : p.exec ≡ x = ap (λ (q : Perm). q.exec) is in (is ∙ ap (λ b. record { read = r; write = w; exec = b }) (sym same), ap (letter_text 120) same))
+    (λ x p _ is. let same : p.exec ≡ x = ap (λ (q : Perm). q.exec) is in
+    (is ∙ ap (λ b. record { read = r; write = w; exec = b }) (sym same), ap (letter_text 120) same))
     (λ p is. (p.exec, tt, is))
     (λ x _. (record { read = r; write = w; exec = x }, refl))
 
 -- the reader of the second and third letter
-write_reads : (r : Bool) → Reads (λ (p : Perm). p ≡ record { read = r; write = p.write; exec = p.exec }) (λ p. letter_text 119 p.write ++ letter_text 120 p.exec)
+write_reads : (r : Bool)
+    → Reads (λ (p : Perm). p ≡ record { read = r; write = p.write; exec = p.exec }) (λ p. letter_text 119 p.write ++ letter_text 120 p.exec)
     (λ bytes. letter_at 119 bytes >>= λ w. letter_at 120 w.1 >>= λ x. Ok (record { read = r; write = w.0; exec = x.0 }, x.1))
 write_reads r = both_reads Any (letter_text 119) (letter_at 119)
-    (λ w p. p ≡ record { read = r; write = w; exec = p.exec }) (λ w p. letter_text 120 p.exec) (λ w bytes. letter_at 120 bytes >>= λ x. Ok (record { read = r; write = w; exec = x.0 }, x.1))
+    (λ w p. p ≡ record { read = r; write = w; exec = p.exec }) (λ w p. letter_text 120 p.exec)
+    (λ w bytes. letter_at 120 bytes >>= λ x. Ok (record { read = r; write = w; exec = x.0 }, x.1))
     (λ p. p ≡ record { read = r; write = p.write; exec = p.exec }) (λ p. letter_text 119 p.write ++ letter_text 120 p.exec)
     (letter_reads 119 refl) (λ w _. exec_reads r w)
-    (λ w p _ is. let same : p.write ≡ w = ap (λ (q : Perm). q.write) is in (is ∙ ap (λ b. record { read = r; write = b; exec = p.exec }) (sym same), ap (λ b. letter_text 119 b ++ letter_text 120 p.exec) same))
+    (λ w p _ is. let same : p.write ≡ w = ap (λ (q : Perm). q.write) is in
+    (is ∙ ap (λ b. record { read = r; write = b; exec = p.exec }) (sym same), ap (λ b. letter_text 119 b ++ letter_text 120 p.exec) same))
     (λ p is. (p.write, tt, is))
     (λ w _. (record { read = r; write = w; exec = false }, refl))
 
@@ -397,14 +422,16 @@ perm_reads = both_reads Any (letter_text 114) (letter_at 114)
     (λ r bytes. letter_at 119 bytes >>= λ w. letter_at 120 w.1 >>= λ x. Ok (record { read = r; write = w.0; exec = x.0 }, x.1))
     Any perm_text
     (letter_reads 114 refl) (λ r _. write_reads r)
-    (λ r p _ is. let same : p.read ≡ r = ap (λ (q : Perm). q.read) is in (tt, ap (λ b. letter_text 114 b ++ letter_text 119 p.write ++ letter_text 120 p.exec) same))
+    (λ r p _ is. let same : p.read ≡ r = ap (λ (q : Perm). q.read) is in
+    (tt, ap (λ b. letter_text 114 b ++ letter_text 119 p.write ++ letter_text 120 p.exec) same))
     (λ p _. (p.read, tt, refl))
     (λ r _. (record { read = r; write = false; exec = false }, refl))
 
 -- ---- entries
 
 -- the reader of what follows a tag
-after_tag_reads : (tag : Tag) → Reads (λ (e : Entry). e.tag ≡ tag) (λ e. perm_text e.perm) (λ bytes. perm_at bytes >>= λ perm. Ok (record { tag = tag; perm = perm.0 }, perm.1))
+after_tag_reads : (tag : Tag)
+    → Reads (λ (e : Entry). e.tag ≡ tag) (λ e. perm_text e.perm) (λ bytes. perm_at bytes >>= λ perm. Ok (record { tag = tag; perm = perm.0 }, perm.1))
 after_tag_reads tag = both_reads Any perm_text perm_at
     (λ perm e. e ≡ record { tag = tag; perm = perm }) (λ _ _. []) (λ perm bytes. Ok (record { tag = tag; perm = perm }, bytes))
     (λ e. e.tag ≡ tag) (λ e. perm_text e.perm)

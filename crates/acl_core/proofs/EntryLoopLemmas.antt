@@ -14,21 +14,25 @@ regroup front e (Ok others) = ap (λ (list : List Entry). Ok list) (sym (append_
 regroup front e (Err stop) = refl
 
 -- where bytes are left, a comma and an entry are read
-pub one_more : (room : ℕ) (bytes : List ℕ) → 0 < length bytes → more_at (suc room) bytes ≡ (next_at bytes >>= λ next. more_at room next.1 >>= λ others. Ok (next.0 ∷ others))
+pub one_more : (room : ℕ) (bytes : List ℕ) → 0 < length bytes
+    → more_at (suc room) bytes ≡ (next_at bytes >>= λ next. more_at room next.1 >>= λ others. Ok (next.0 ∷ others))
 unfolding more_at
 one_more room [] h = absurd (omega arith)
 one_more room (b ∷ bytes) h = refl
 
 -- with one entry more in front, one fewer may come
-pub goes_on : (most n : ℕ) (front : List Entry) (bytes : List ℕ) (e : Entry) (rest : List ℕ) (total : Result (List Entry) Stop) → n < most → 0 < length bytes → next_at bytes ≡ Ok (e, rest)
+pub goes_on : (most n : ℕ) (front : List Entry) (bytes : List ℕ) (e : Entry) (rest : List ℕ) (total : Result (List Entry) Stop) → n < most → 0 < length bytes
+    → next_at bytes ≡ Ok (e, rest)
     → after front (more_at (most - n) bytes) ≡ total → after (front ++ e ∷ []) (more_at (most - (n + 1)) rest) ≡ total
 goes_on most n front bytes e rest total lt some read so_far =
     let room : most - n ≡ suc (most - (n + 1)) = omega arith in
-    let step : after front (more_at (most - n) bytes) ≡ after (front ++ e ∷ []) (more_at (most - (n + 1)) rest) = rw (room, one_more (most - (n + 1)) bytes some, read) (regroup front e (more_at (most - (n + 1)) rest)) in
+    let step : after front (more_at (most - n) bytes) ≡ after (front ++ e ∷ []) (more_at (most - (n + 1)) rest) =
+    rw (room, one_more (most - (n + 1)) bytes some, read) (regroup front e (more_at (most - (n + 1)) rest)) in
     sym step ∙ so_far
 
 -- a fault in the next entry is the fault of the whole
-pub stops : (most n : ℕ) (front : List Entry) (bytes : List ℕ) (stop : Stop) (total : Result (List Entry) Stop) → n < most → 0 < length bytes → next_at bytes ≡ Err stop
+pub stops : (most n : ℕ) (front : List Entry) (bytes : List ℕ) (stop : Stop) (total : Result (List Entry) Stop) → n < most → 0 < length bytes
+    → next_at bytes ≡ Err stop
     → after front (more_at (most - n) bytes) ≡ total → total ≡ Err stop
 stops most n front bytes stop total lt some read so_far =
     let room : most - n ≡ suc (most - (n + 1)) = omega arith in

@@ -27,8 +27,13 @@ pub record IsValid (list : List Entry) : Type 0 where
 -- a list without a fault is valid
 pub valid_from_no_fault : (list : List Entry) → fault_of list ≡ None → IsValid list
 valid_from_no_fault list h =
-    let a = passed (ltb 64 (length list)) TooMany (cond (has_twice list) (Some Twice) (cond (not (has_required list)) (Some Missing) (cond (has_named list && not (has_tag Mask list)) (Some NoMask) None))) h in
-    let b = passed (has_twice list) Twice (cond (not (has_required list)) (Some Missing) (cond (has_named list && not (has_tag Mask list)) (Some NoMask) None)) a.1 in
+    let a =
+    passed (ltb 64 (length list)) TooMany
+    (cond (has_twice list) (Some Twice)
+    (cond (not (has_required list)) (Some Missing) (cond (has_named list && not (has_tag Mask list)) (Some NoMask) None)))
+    h in
+    let b =
+    passed (has_twice list) Twice (cond (not (has_required list)) (Some Missing) (cond (has_named list && not (has_tag Mask list)) (Some NoMask) None)) a.1 in
     let c = passed (not (has_required list)) Missing (cond (has_named list && not (has_tag Mask list)) (Some NoMask) None) b.1 in
     let d = passed (has_named list && not (has_tag Mask list)) NoMask None c.1 in
     record {
@@ -84,7 +89,8 @@ same_fault xs ys p =
 same_order : (xs ys : List Entry) → IsPermutation xs ys → has_twice xs ≡ false → in_order xs ≡ in_order ys
 same_order xs ys p once =
     let across : IsPermutation (in_order xs) (in_order ys) =
-    IsPermutation-trans (in_order xs) xs (in_order ys) (IsPermutation-sym xs (in_order xs) (in_order_permutes xs)) (IsPermutation-trans xs ys (in_order ys) p (in_order_permutes ys)) in
+    IsPermutation-trans (in_order xs) xs (in_order ys) (IsPermutation-sym xs (in_order xs) (in_order_permutes xs))
+    (IsPermutation-trans xs ys (in_order ys) p (in_order_permutes ys)) in
     ordered_same (in_order xs) (in_order ys) (in_order_ordered xs once) (in_order_ordered ys (once_permutation xs ys p once))
     (in_permutation (in_order xs) (in_order ys) across)
     (in_permutation (in_order ys) (in_order xs) (IsPermutation-sym (in_order xs) (in_order ys) across))
@@ -102,7 +108,8 @@ same_acl xs ys p =
     elim (fault_or_none (fault_of xs)) [
       | inl none ↦
           let also : fault_of ys ≡ None = sym fault ∙ none in
-          ap (list_or_fault xs) none ∙ ap (λ (list : List Entry). Ok list) (same_order xs ys p (valid_from_no_fault xs none).once) ∙ ap (list_or_fault ys) (sym also)
+          ap (list_or_fault xs) none ∙ ap (λ (list : List Entry). Ok list) (same_order xs ys p (valid_from_no_fault xs none).once)
+          ∙ ap (list_or_fault ys) (sym also)
       | inr some ↦
           let also : fault_of ys ≡ Some some.0 = sym fault ∙ some.1 in
           ap (list_or_fault xs) some.1 ∙ ap (list_or_fault ys) (sym also)

@@ -48,7 +48,8 @@ more_found : (room : ℕ) (bytes : List ℕ) (list : List Entry) → more_at roo
 unfolding more_at
 more_found zero [] list e = let same : [] ≡ list = cc in subst (λ (l : List Entry). ([] ≡ more_text l) × AreMore zero l) same (refl, (omega arith, tt))
 more_found zero (b ∷ bytes) list e = absurd cc
-more_found (suc room) [] list e = let same : [] ≡ list = cc in subst (λ (l : List Entry). ([] ≡ more_text l) × AreMore (suc room) l) same (refl, (omega arith, tt))
+more_found (suc room) [] list e =
+    let same : [] ≡ list = cc in subst (λ (l : List Entry). ([] ≡ more_text l) × AreMore (suc room) l) same (refl, (omega arith, tt))
 more_found (suc room) (b ∷ bytes) list e =
     let s = bind_ok (next_at (b ∷ bytes)) (λ next. more_at room next.1 >>= λ others. Ok (next.0 ∷ others)) list e in
     let r = bind_ok (more_at room s.0.1) (λ others. Ok (s.0.0 ∷ others)) list s.2 in
@@ -111,8 +112,20 @@ more_fault (suc room) (b ∷ bytes) stop e =
                   parts = f.0 ∙ ap (λ xs. next_text first ++ xs) g.parts ∙ sym (append_assoc (next_text first) g.front g.back);
                   place = g.place;
                   begins = elim g.begins [
-                    | inl none ↦ inr (first ∷ [], [], (omega arith, (f.1, tt)), more_text-cons first [] ∙ ap (λ xs. next_text first ++ xs) (sym none) ∙ sym (append-nil (next_text first ++ g.front)))
-                    | inr begun ↦ inr (first ∷ begun.0, begun.1, (omega (arith, begun.2.0), (f.1, begun.2.1)), more_text-cons first begun.0 ∙ ap (λ xs. next_text first ++ xs) begun.3 ∙ sym (append_assoc (next_text first) g.front begun.1))
+                    | inl none ↦
+                        inr (
+                          first ∷ [],
+                          [],
+                          (omega arith, (f.1, tt)),
+                          more_text-cons first [] ∙ ap (λ xs. next_text first ++ xs) (sym none) ∙ sym (append-nil (next_text first ++ g.front)),
+                        )
+                    | inr begun ↦
+                        inr (
+                          first ∷ begun.0,
+                          begun.1,
+                          (omega (arith, begun.2.0), (f.1, begun.2.1)),
+                          more_text-cons first begun.0 ∙ ap (λ xs. next_text first ++ xs) begun.3 ∙ sym (append_assoc (next_text first) g.front begun.1),
+                        )
                   ];
                   firm = λ c rest other is.
                       ap (more_at (suc room)) (append_assoc (next_text first) g.front (c ∷ other))
@@ -178,8 +191,20 @@ entries_fault bytes stop e =
                   parts = f.0 ∙ ap (λ xs. entry_text first ++ xs) g.parts ∙ sym (append_assoc (entry_text first) g.front g.back);
                   place = g.place;
                   begins = elim g.begins [
-                    | inl none ↦ inr (first ∷ [], [], (f.1, (omega arith, tt)), sym (append-nil (entry_text first)) ∙ ap (λ xs. entry_text first ++ xs) (sym none) ∙ sym (append-nil (entry_text first ++ g.front)))
-                    | inr begun ↦ inr (first ∷ begun.0, begun.1, (f.1, begun.2), list_text-cons first begun.0 ∙ ap (λ xs. entry_text first ++ xs) begun.3 ∙ sym (append_assoc (entry_text first) g.front begun.1))
+                    | inl none ↦
+                        inr (
+                          first ∷ [],
+                          [],
+                          (f.1, (omega arith, tt)),
+                          sym (append-nil (entry_text first)) ∙ ap (λ xs. entry_text first ++ xs) (sym none) ∙ sym (append-nil (entry_text first ++ g.front)),
+                        )
+                    | inr begun ↦
+                        inr (
+                          first ∷ begun.0,
+                          begun.1,
+                          (f.1, begun.2),
+                          list_text-cons first begun.0 ∙ ap (λ xs. entry_text first ++ xs) begun.3 ∙ sym (append_assoc (entry_text first) g.front begun.1),
+                        )
                   ];
                   firm = λ c rest other is.
                       ap entries_at (append_assoc (entry_text first) g.front (c ∷ other))
@@ -292,7 +317,8 @@ list_fault bytes stop e =
             place = f.place;
             begins = elim f.begins [ inl none ↦ inl none | inr begun ↦ inr (begun.0, begun.1, full_has_text begun.0 begun.2, begun.3) ];
             firm = λ b rest more is.
-                let still : begins_as (codes "-") (f.front ++ b ∷ more) ≡ false = same_first (codes "-") f.front b rest more ∙ ap (begins_as (codes "-")) (ap (λ xs. f.front ++ xs) (sym is) ∙ sym f.parts) ∙ other in
+                let still : begins_as (codes "-") (f.front ++ b ∷ more) ≡ false =
+                same_first (codes "-") f.front b rest more ∙ ap (begins_as (codes "-")) (ap (λ xs. f.front ++ xs) (sym is) ∙ sym f.parts) ∙ other in
                 list_entries (f.front ++ b ∷ more) still ∙ f.firm b rest more is;
           }
     ]
@@ -309,10 +335,12 @@ fault_begins bytes stop f =
     ]
 
 -- no text has the byte there
-no_text_goes_on : (bytes : List ℕ) (stop : Stop) (f : FaultIn HasText list_text list_at bytes stop) (b : ℕ) (rest : List ℕ) → f.back ≡ b ∷ rest → ¬ (Begins (f.front ++ b ∷ []))
+no_text_goes_on : (bytes : List ℕ) (stop : Stop) (f : FaultIn HasText list_text list_at bytes stop) (b : ℕ) (rest : List ℕ) → f.back ≡ b ∷ rest
+    → ¬ (Begins (f.front ++ b ∷ []))
 no_text_goes_on bytes stop f b rest is begins =
     let text : list_text begins.0 ≡ f.front ++ b ∷ begins.1 = begins.3 ∙ append_assoc f.front (b ∷ []) begins.1 in
-    let both : ◌≡◌ {A = Result (List Entry) Stop} (Err (stop_at (b ∷ begins.1))) (Ok begins.0) = sym (f.firm b rest begins.1 is) ∙ ap list_at (sym text) ∙ list_again begins.0 begins.2 in
+    let both : ◌≡◌ {A = Result (List Entry) Stop} (Err (stop_at (b ∷ begins.1))) (Ok begins.0) =
+    sym (f.firm b rest begins.1 is) ∙ ap list_at (sym text) ∙ list_again begins.0 begins.2 in
     absurd cc
 
 -- the bytes that are left of two places that are one
@@ -330,7 +358,8 @@ take_front : (text front back : List ℕ) (at : ℕ) → text ≡ front ++ back 
 take_front text front back at parts is = rw (parts, is) (take-append_seam front back)
 
 -- the bytes before the fault and the one there
-take_one_more : (text front back : List ℕ) (b : ℕ) (rest : List ℕ) (at : ℕ) → text ≡ front ++ back → back ≡ b ∷ rest → at ≡ length front → take (at + 1) text ≡ front ++ b ∷ []
+take_one_more : (text front back : List ℕ) (b : ℕ) (rest : List ℕ) (at : ℕ) → text ≡ front ++ back → back ≡ b ∷ rest → at ≡ length front
+    → take (at + 1) text ≡ front ++ b ∷ []
 take_one_more text front back b rest at parts some is = rw (parts, some, is) (take-append-add front (b ∷ rest) 1)
 
 -- a byte comes first, or none is there
@@ -350,7 +379,9 @@ fault_place text stop e =
       there = λ below begins.
           elim (first_or_none f.back) [
             | inl none ↦ absurd (omega (arith, ap length none, place_left f.place))
-            | inr some ↦ no_text_goes_on text stop f some.0 some.1 some.2 (subst Begins (take_one_more text f.front f.back some.0 some.1 (length text - stop.left) f.parts some.2 at) begins)
+            | inr some ↦
+                no_text_goes_on text stop f some.0 some.1 some.2
+                (subst Begins (take_one_more text f.front f.back some.0 some.1 (length text - stop.left) f.parts some.2 at) begins)
           ];
     }
 

@@ -22,7 +22,8 @@ contains_with_perm perm list e there =
 -- the same with the permission said
 stands_with : (perm : Entry → Perm) (list : List Entry) (e : Entry) (bits : Perm) → perm e ≡ bits → Contains list e
     → Contains (map (with_perm perm) list) (record { tag = e.tag; perm = bits })
-stands_with perm list e bits is there = subst (λ p. Contains (map (with_perm perm) list) (record { tag = e.tag; perm = p })) is (contains_with_perm perm list e there)
+stands_with perm list e bits is there =
+    subst (λ p. Contains (map (with_perm perm) list) (record { tag = e.tag; perm = p })) is (contains_with_perm perm list e there)
 
 -- no bits of a mode are for a named user or group, nor for the file's group under a mask
 no_bits_named : (masked : Bool) (mode : ℕ) (tag : Tag) → IsTrue (is_named tag) → bits_for (cond masked Mask GroupObj) mode tag ≡ None
@@ -57,10 +58,12 @@ unfolding with_mode
 with_mode_named list mode e named there =
     stands_with (mode_perm list mode) list e e.perm (ap (λ bits. unwrap_or bits e.perm) (no_bits_named (has_tag Mask list) mode e.tag named)) there
 
-pub with_mode_group : (list : List Entry) (mode : ℕ) (e : Entry) → has_tag Mask list ≡ true → e.tag ≡ GroupObj → Contains list e → Contains (with_mode list mode) e
+pub with_mode_group : (list : List Entry) (mode : ℕ) (e : Entry) → has_tag Mask list ≡ true → e.tag ≡ GroupObj → Contains list e
+    → Contains (with_mode list mode) e
 unfolding with_mode
 with_mode_group list mode e masked is_group there =
-    stands_with (mode_perm list mode) list e e.perm (ap (λ bits. unwrap_or bits e.perm) (no_bits_under_mask (has_tag Mask list) mode e.tag masked is_group)) there
+    stands_with (mode_perm list mode) list e e.perm (ap (λ bits. unwrap_or bits e.perm) (no_bits_under_mask (has_tag Mask list) mode e.tag masked is_group))
+    there
 
 -- ---- a list that is inherited
 
@@ -74,7 +77,8 @@ inherited_tags list mode = tags (common_perm list mode) list
 pub inherited_owner : (list : List Entry) (mode : ℕ) (perm : Perm) → Contains list (record { tag = UserObj; perm = perm })
     → Contains (inherited_list list mode) (record { tag = UserObj; perm = common perm (owner_bits mode) })
 unfolding inherited_list
-inherited_owner list mode perm there = stands_with (common_perm list mode) list (record { tag = UserObj; perm = perm }) (common perm (owner_bits mode)) refl there
+inherited_owner list mode perm there =
+    stands_with (common_perm list mode) list (record { tag = UserObj; perm = perm }) (common perm (owner_bits mode)) refl there
 
 pub inherited_mask : (list : List Entry) (mode : ℕ) (perm : Perm) → has_tag Mask list ≡ true → Contains list (record { tag = Mask; perm = perm })
     → Contains (inherited_list list mode) (record { tag = Mask; perm = common perm (group_bits mode) })

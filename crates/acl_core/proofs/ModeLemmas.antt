@@ -23,14 +23,17 @@ use Rattle.acl_core.proofs.SameTagLemmas.{with_perm, any_tag}
 
 -- what three entries grant, by the class of the caller
 nine_bits : (o g t want : Perm) (is_owner matches : Bool)
-    → list_any (λ p. has_all p want) (cond is_owner (o ∷ []) (cond (matches || (false || false)) (map (λ (e : Entry). e.perm) (cond matches (record { tag = GroupObj; perm = g } ∷ []) [])) (t ∷ [])))
+    → list_any (λ p. has_all p want)
+    (cond is_owner (o ∷ [])
+    (cond (matches || (false || false)) (map (λ (e : Entry). e.perm) (cond matches (record { tag = GroupObj; perm = g } ∷ []) [])) (t ∷ [])))
     ≡ has_all (cond is_owner o (cond matches g t)) want
 nine_bits o g t want true matches = or-false (has_all o want)
 nine_bits o g t want false true = or-false (has_all g want)
 nine_bits o g t want false false = or-false (has_all t want)
 
 -- the list of a mode grants what the bits of the class grant
-pub minimal_grants : (mode : ℕ) (cred : Cred) (owner group : ℕ) (want : Perm) → grants (minimal_list mode) cred owner group want ≡ has_all (class_bits mode (eqb cred.uid owner) (in_group cred group)) want
+pub minimal_grants : (mode : ℕ) (cred : Cred) (owner group : ℕ) (want : Perm)
+    → grants (minimal_list mode) cred owner group want ≡ has_all (class_bits mode (eqb cred.uid owner) (in_group cred group)) want
 unfolding grants minimal_list
 minimal_grants mode cred owner group want = nine_bits (owner_bits mode) (group_bits mode) (other_bits mode) want (eqb cred.uid owner) (in_group cred group)
 
@@ -60,7 +63,8 @@ one_with tag list acl has =
     ]
 
 -- the entries with a tag after a change are those before, changed
-entries_with_perm : (perm : Entry → Perm) (tag : Tag) (list : List Entry) → entries_with tag (map (with_perm perm) list) ≡ map (with_perm perm) (entries_with tag list)
+entries_with_perm : (perm : Entry → Perm) (tag : Tag) (list : List Entry)
+    → entries_with tag (map (with_perm perm) list) ≡ map (with_perm perm) (entries_with tag list)
 entries_with_perm perm tag [] = refl
 entries_with_perm perm tag (e ∷ list) =
     elim (cases_Bool (same_tag e.tag tag)) [
@@ -81,7 +85,8 @@ tags_are tag (f ∷ list) e rest is =
     ]
 
 -- the digit that an entry with a tag has after a change
-with_perm_digit : (perm : Entry → Perm) (bits : Perm) (tag : Tag) (list : List Entry) → IsAcl list → has_tag tag list ≡ true → ((e : Entry) → e.tag ≡ tag → perm e ≡ bits)
+with_perm_digit : (perm : Entry → Perm) (bits : Perm) (tag : Tag) (list : List Entry) → IsAcl list → has_tag tag list ≡ true
+    → ((e : Entry) → e.tag ≡ tag → perm e ≡ bits)
     → digit_of_one (perms_at tag (map (with_perm perm) list)) ≡ digit_of bits
 with_perm_digit perm bits tag list acl has gives =
     let one = one_with tag list acl has in
@@ -154,7 +159,8 @@ both_within q p m n first second want h =
     has_all-common p n want ∙ and_from _ _ (first want parts.0) (second want parts.1)
 
 -- where one of the narrower permissions has the bits, one of the others has them
-any_within : (narrow perms : List Perm) (want : Perm) → AllWithin narrow perms → list_any (λ p. has_all p want) narrow ≡ true → list_any (λ p. has_all p want) perms ≡ true
+any_within : (narrow perms : List Perm) (want : Perm) → AllWithin narrow perms → list_any (λ p. has_all p want) narrow ≡ true
+    → list_any (λ p. has_all p want) perms ≡ true
 any_within [] perms want within h = absurd cc
 any_within (q ∷ narrow) [] want within h = absurd within
 any_within (q ∷ narrow) (p ∷ perms) want within h =
@@ -164,14 +170,16 @@ any_within (q ∷ narrow) (p ∷ perms) want within h =
     ]
 
 -- permissions under a narrower mask are narrower
-masked_within : (mask : Perm) (other : Perm) (narrow perms : List Perm) → Within mask other → AllWithin narrow perms → AllWithin (map (λ p. common p mask) narrow) (map (λ p. common p other) perms)
+masked_within : (mask : Perm) (other : Perm) (narrow perms : List Perm) → Within mask other → AllWithin narrow perms
+    → AllWithin (map (λ p. common p mask) narrow) (map (λ p. common p other) perms)
 masked_within mask other [] [] m within = tt
 masked_within mask other [] (p ∷ perms) m within = absurd within
 masked_within mask other (q ∷ narrow) [] m within = absurd within
 masked_within mask other (q ∷ narrow) (p ∷ perms) m within = (both_within q p mask other within.0 m, masked_within mask other narrow perms m within.1)
 
 -- permissions limited by narrower masks are narrower
-limits_within : (masks others narrow perms : List Perm) → AllWithin masks others → AllWithin narrow perms → AllWithin (limit_by masks narrow) (limit_by others perms)
+limits_within : (masks others narrow perms : List Perm) → AllWithin masks others → AllWithin narrow perms
+    → AllWithin (limit_by masks narrow) (limit_by others perms)
 limits_within [] [] narrow perms m within = within
 limits_within [] (other ∷ others) narrow perms m within = absurd m
 limits_within (mask ∷ masks) [] narrow perms m within = absurd m
@@ -188,14 +196,16 @@ module _ (perm : Entry → Perm) (narrows : (e : Entry) → Within (perm e) e.pe
       ]
 
   -- what is granted after such a change was granted before
-  with_perm_grants : (list : List Entry) (cred : Cred) (owner group : ℕ) (want : Perm) → grants (map (with_perm perm) list) cred owner group want ≡ true → grants list cred owner group want ≡ true
+  with_perm_grants : (list : List Entry) (cred : Cred) (owner group : ℕ) (want : Perm) → grants (map (with_perm perm) list) cred owner group want ≡ true
+      → grants list cred owner group want ≡ true
   unfolding grants
   with_perm_grants list cred owner group want h =
       let user = λ (t : Tag). same_tag t (User cred.uid) in
       let matches = matches_group cred group in
       let masks = perms_within (λ t. same_tag t Mask) list in
       let has_user : has_tag (User cred.uid) (map (with_perm perm) list) ≡ has_tag (User cred.uid) list = any_tag perm user list in
-      let has_group : list_any (λ e. matches_group cred group e.tag) (map (with_perm perm) list) ≡ list_any (λ e. matches_group cred group e.tag) list = any_tag perm matches list in
+      let has_group : list_any (λ e. matches_group cred group e.tag) (map (with_perm perm) list) ≡ list_any (λ e. matches_group cred group e.tag) list =
+      any_tag perm matches list in
       elim (cases_Bool (eqb cred.uid owner)) [
         | inl owns ↦
             let h : list_any (λ p. has_all p want) (perms_at UserObj (map (with_perm perm) list)) ≡ true = rw owns at h in
@@ -205,22 +215,30 @@ module _ (perm : Entry → Perm) (narrows : (e : Entry) → Within (perm e) e.pe
               let narrow = limit_by (perms_at Mask (map (with_perm perm) list)) (perms_at (User cred.uid) (map (with_perm perm) list)) in
               let h : list_any (λ p. has_all p want) narrow ≡ true = rw (stranger, has_user, named) at h in
               rw (stranger, named) (any_within narrow (limit_by (perms_at Mask list) (perms_at (User cred.uid) list)) want
-              (limits_within (perms_at Mask (map (with_perm perm) list)) (perms_at Mask list) (perms_at (User cred.uid) (map (with_perm perm) list)) (perms_at (User cred.uid) list) masks (perms_within user list)) h)
+              (limits_within (perms_at Mask (map (with_perm perm) list)) (perms_at Mask list) (perms_at (User cred.uid) (map (with_perm perm) list))
+              (perms_at (User cred.uid) list) masks (perms_within user list))
+              h)
           | inr unnamed ↦ elim (cases_Bool (list_any (λ e. matches_group cred group e.tag) list)) [
             | inl some ↦
                 let narrow = limit_by (perms_at Mask (map (with_perm perm) list)) (perms_where matches (map (with_perm perm) list)) in
                 let h : list_any (λ p. has_all p want) narrow ≡ true = rw (stranger, has_user, unnamed, has_group, some) at h in
                 rw (stranger, unnamed, some) (any_within narrow (limit_by (perms_at Mask list) (perms_where matches list)) want
-                (limits_within (perms_at Mask (map (with_perm perm) list)) (perms_at Mask list) (perms_where matches (map (with_perm perm) list)) (perms_where matches list) masks (perms_within matches list)) h)
+                (limits_within (perms_at Mask (map (with_perm perm) list)) (perms_at Mask list) (perms_where matches (map (with_perm perm) list))
+                (perms_where matches list) masks (perms_within matches list))
+                h)
             | inr none ↦
-                let h : list_any (λ p. has_all p want) (perms_at Other (map (with_perm perm) list)) ≡ true = rw (stranger, has_user, unnamed, has_group, none) at h in
-                rw (stranger, unnamed, none) (any_within (perms_at Other (map (with_perm perm) list)) (perms_at Other list) want (perms_within (λ t. same_tag t Other) list) h)
+                let h : list_any (λ p. has_all p want) (perms_at Other (map (with_perm perm) list)) ≡ true =
+                rw (stranger, has_user, unnamed, has_group, none) at h in
+                rw (stranger, unnamed, none)
+                (any_within (perms_at Other (map (with_perm perm) list)) (perms_at Other list) want (perms_within (λ t. same_tag t Other) list) h)
           ]
         ]
       ]
 
 -- what an inherited list grants, the default list grants
-pub inherited_narrows : (list : List Entry) (cred : Cred) (owner group mode : ℕ) (want : Perm) → grants (inherited_list list mode) cred owner group want ≡ true → grants list cred owner group want ≡ true
+pub inherited_narrows : (list : List Entry) (cred : Cred) (owner group mode : ℕ) (want : Perm) → grants (inherited_list list mode) cred owner group want ≡ true
+    → grants list cred owner group want ≡ true
 unfolding inherited_list
 inherited_narrows list cred owner group mode want h =
-    with_perm_grants (λ e. limit_to e.perm (bits_for (class_tag list) mode e.tag)) (λ e. limited_within e.perm (bits_for (class_tag list) mode e.tag)) list cred owner group want h
+    with_perm_grants (λ e. limit_to e.perm (bits_for (class_tag list) mode e.tag)) (λ e. limited_within e.perm (bits_for (class_tag list) mode e.tag)) list cred
+    owner group want h

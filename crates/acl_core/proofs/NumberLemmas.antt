@@ -58,7 +58,8 @@ digits_found m (b ∷ bytes) n rest some fits e =
             let range = digit_range b digit in
             let lt = ltb-true _ _ below in
             let f = digits_found (with_digit m b) bytes n rest (omega arith) lt on in
-            let joined : decimal (with_digit m b) ++ bytes ≡ decimal m ++ b ∷ bytes = ap (λ xs. xs ++ bytes) (decimal_with m b some digit lt) ∙ append_assoc (decimal m) (b ∷ []) bytes in
+            let joined : decimal (with_digit m b) ++ bytes ≡ decimal m ++ b ∷ bytes =
+            ap (λ xs. xs ++ bytes) (decimal_with m b some digit lt) ∙ append_assoc (decimal m) (b ∷ []) bytes in
             record { parts = sym joined ∙ f.parts; fits = f.fits; ends = f.ends }
         | inr much ↦ let is : ◌≡◌ {A = Result (ℕ × List ℕ) Stop} (Err (stop_at (b ∷ bytes))) (Ok (n, rest)) = rw (digit, much) at e in absurd cc
       ]
@@ -80,7 +81,8 @@ digits_fault m (b ∷ bytes) stop some fits e =
             let on : digits_at (with_digit m b) bytes ≡ Err stop = rw (digit, below) at e in
             let range = digit_range b digit in
             let lt = ltb-true _ _ below in
-            let joined : decimal (with_digit m b) ++ bytes ≡ decimal m ++ b ∷ bytes = ap (λ xs. xs ++ bytes) (decimal_with m b some digit lt) ∙ append_assoc (decimal m) (b ∷ []) bytes in
+            let joined : decimal (with_digit m b) ++ bytes ≡ decimal m ++ b ∷ bytes =
+            ap (λ xs. xs ++ bytes) (decimal_with m b some digit lt) ∙ append_assoc (decimal m) (b ∷ []) bytes in
             subst (λ xs. Overflows xs stop) joined (digits_fault (with_digit m b) bytes stop (omega arith) lt on)
         | inr much ↦
             let is : ◌≡◌ {A = Result (ℕ × List ℕ) Stop} (Err (stop_at (b ∷ bytes))) (Err stop) = rw (digit, much) at e in
@@ -99,7 +101,8 @@ unfolding digits_at
 digits_step n b more digit below = rw (digit, lt-ltb (with_digit n b) (2 ^ 32) below) refl
 
 -- a digit too many is a fault
-digits_overflow : (n b : ℕ) (more : List ℕ) → is_ascii_digit b ≡ true → ltb (with_digit n b) (2 ^ 32) ≡ false → digits_at n (b ∷ more) ≡ Err (stop_at (b ∷ more))
+digits_overflow : (n b : ℕ) (more : List ℕ) → is_ascii_digit b ≡ true → ltb (with_digit n b) (2 ^ 32) ≡ false
+    → digits_at n (b ∷ more) ≡ Err (stop_at (b ∷ more))
 unfolding digits_at
 digits_overflow n b more digit much = rw (digit, much) refl
 
@@ -196,7 +199,9 @@ number_fault (b ∷ bytes) stop e =
             let is : ◌≡◌ {A = Result (ℕ × List ℕ) Stop} (Err (stop_at (b ∷ bytes))) (Err stop) = rw (nonzero, no_digit) at e in
             inl (record {
               place = cc;
-              missing = λ c rest other same. let head : b ≡ c = cc in subst (λ x. number_at (x ∷ other) ≡ Err (stop_at (x ∷ other))) head (rw (nonzero, no_digit) refl);
+              missing =
+                  λ c rest other same. let head : b ≡ c = cc in
+                  subst (λ x. number_at (x ∷ other) ≡ Err (stop_at (x ∷ other))) head (rw (nonzero, no_digit) refl);
             })
       ]
     ]
@@ -221,7 +226,8 @@ numbered_found bytes o rest e =
     let r = bind_ok (byte_at 58 s.0.1) (λ rest. Ok (Some s.0.0, rest)) (o, rest) s.2 in
     let same : ◌≡◌ {A = Option ℕ × List ℕ} (Some s.0.0, r.0) (o, rest) = cc in
     let f = number_found bytes s.0.0 s.0.1 s.1 in
-    let whole : bytes ≡ (decimal s.0.0 ++ codes ":") ++ r.0 = f.parts ∙ ap (λ xs. decimal s.0.0 ++ xs) (byte_found 58 s.0.1 r.0 r.1) ∙ sym (append_assoc (decimal s.0.0) (codes ":") r.0) in
+    let whole : bytes ≡ (decimal s.0.0 ++ codes ":") ++ r.0 =
+    f.parts ∙ ap (λ xs. decimal s.0.0 ++ xs) (byte_found 58 s.0.1 r.0 r.1) ∙ sym (append_assoc (decimal s.0.0) (codes ":") r.0) in
     subst (λ (x : Option ℕ × List ℕ). (bytes ≡ qualifier_text x.0 ++ x.1) × IsNumber x.0) same (whole, f.fits)
 
 -- a colon is no digit
@@ -233,7 +239,8 @@ numbered_again : (o : Option ℕ) (rest : List ℕ) → IsNumber o → numbered_
 unfolding numbered_at
 numbered_again None rest fits = absurd fits
 numbered_again (Some n) rest fits =
-    let e : number_at ((decimal n ++ codes ":") ++ rest) ≡ Ok (n, 58 ∷ rest) = ap number_at (append_assoc (decimal n) (codes ":") rest) ∙ number_again n (58 ∷ rest) fits (λ _. colon_is_no_digit rest) in
+    let e : number_at ((decimal n ++ codes ":") ++ rest) ≡ Ok (n, 58 ∷ rest) =
+    ap number_at (append_assoc (decimal n) (codes ":") rest) ∙ number_again n (58 ∷ rest) fits (λ _. colon_is_no_digit rest) in
     rw e refl
 
 -- where a number and a colon have their fault
@@ -259,7 +266,8 @@ numbered_fault bytes stop e =
           firm = λ b rest other is.
               let head : over.b ≡ b = cc in
               let stopped : digits_at over.n (over.b ∷ other) ≡ Err (stop_at (over.b ∷ other)) = digits_overflow over.n over.b other over.digit over.much in
-              let whole : number_at (decimal over.n ++ over.b ∷ other) ≡ Err (stop_at (over.b ∷ other)) = number_more over.n over.some over.fits (over.b ∷ other) ∙ stopped in
+              let whole : number_at (decimal over.n ++ over.b ∷ other) ≡ Err (stop_at (over.b ∷ other)) =
+              number_more over.n over.some over.fits (over.b ∷ other) ∙ stopped in
               subst (λ x. numbered_at (decimal over.n ++ x ∷ other) ≡ Err (stop_at (x ∷ other))) head (rw whole refl);
         }
       ]
@@ -274,7 +282,8 @@ numbered_fault bytes stop e =
               place = m.0;
               begins = inr (Some goes.0.0, codes ":", f.fits, refl);
               firm = λ b rest other is.
-                  let ends : 1 ≤ goes.0.0 → NoDigit (b ∷ other) = λ some c others same. let head : b ≡ c = cc in subst (λ x. is_ascii_digit x ≡ false) head (f.ends some b rest is) in
+                  let ends : 1 ≤ goes.0.0 → NoDigit (b ∷ other) =
+                  λ some c others same. let head : b ≡ c = cc in subst (λ x. is_ascii_digit x ≡ false) head (f.ends some b rest is) in
                   rw (number_again goes.0.0 (b ∷ other) f.fits ends, byte_differs 58 b other (m.1 b rest is)) refl;
             }
         | inr never ↦ let is : ◌≡◌ {A = Result (Option ℕ × List ℕ) Stop} (Ok (Some goes.0.0, never.0)) (Err stop) = never.2 in absurd cc

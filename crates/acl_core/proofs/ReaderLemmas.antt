@@ -164,7 +164,9 @@ module _ {B : Type 0} (word : List ℕ) (p : List ℕ → Result (List ℕ) Stop
               place = f.place;
               begins = elim f.begins [
                 | inl none ↦ inl none
-                | inr begun ↦ inr (some.0, begun.1 ++ u some.0, some.1, joined some.0 some.1 ∙ ap (λ xs. xs ++ u some.0) begun.3 ∙ append_assoc f.front begun.1 (u some.0))
+                | inr begun ↦
+                    inr
+                    (some.0, begun.1 ++ u some.0, some.1, joined some.0 some.1 ∙ ap (λ xs. xs ++ u some.0) begun.3 ∙ append_assoc f.front begun.1 (u some.0))
               ];
               firm = λ b rest other is. ap (λ r. r >>= q) (f.firm b rest other is);
             }
@@ -176,7 +178,8 @@ module _ {B : Type 0} (word : List ℕ) (p : List ℕ → Result (List ℕ) Stop
               parts = first.takes bytes goes.0 goes.1 ∙ ap (λ xs. word ++ xs) g.parts ∙ sym (append_assoc word g.front g.back);
               place = g.place;
               begins = elim g.begins [
-                | inl none ↦ inr (some.0, u some.0, some.1, joined some.0 some.1 ∙ ap (λ xs. xs ++ u some.0) (sym (append-nil word) ∙ ap (λ xs. word ++ xs) (sym none)))
+                | inl none ↦
+                    inr (some.0, u some.0, some.1, joined some.0 some.1 ∙ ap (λ xs. xs ++ u some.0) (sym (append-nil word) ∙ ap (λ xs. word ++ xs) (sym none)))
                 | inr begun ↦ inr (begun.0, begun.1, begun.2, joined begun.0 begun.2 ∙ ap (λ xs. word ++ xs) begun.3 ∙ sym (append_assoc word g.front begun.1))
               ];
               firm = λ b rest other is.
@@ -208,7 +211,8 @@ pub byte_differs : (b c : ℕ) (rest : List ℕ) → eqb c b ≡ false → byte_
 byte_differs b c rest other = rw other refl
 
 -- where a byte is missing it differs, or nothing is left
-pub byte_missing : (b : ℕ) (bytes : List ℕ) (stop : Stop) → byte_at b bytes ≡ Err stop → (stop_at bytes ≡ stop) × ((c : ℕ) (rest : List ℕ) → bytes ≡ c ∷ rest → eqb c b ≡ false)
+pub byte_missing : (b : ℕ) (bytes : List ℕ) (stop : Stop) → byte_at b bytes ≡ Err stop
+    → (stop_at bytes ≡ stop) × ((c : ℕ) (rest : List ℕ) → bytes ≡ c ∷ rest → eqb c b ≡ false)
 byte_missing b [] stop e = (cc, λ c rest is. absurd cc)
 byte_missing b (c ∷ bytes) stop e =
     elim (cases_Bool (eqb c b)) [
@@ -287,7 +291,8 @@ word_reads [] = nothing_reads
 word_reads (b ∷ word) = byte_then b word (word_reads word)
 
 -- the same values, said in another way
-pub same_values : {A : Type 0} (V W : A → Type 0) (t : A → List ℕ) (p : List ℕ → Result (A × List ℕ) Stop) → ((a : A) → V a → W a) → ((a : A) → W a → V a) → Reads V t p → Reads W t p
+pub same_values : {A : Type 0} (V W : A → Type 0) (t : A → List ℕ) (p : List ℕ → Result (A × List ℕ) Stop) → ((a : A) → V a → W a) → ((a : A) → W a → V a)
+    → Reads V t p → Reads W t p
 same_values V W t p there back reads = record {
   takes = λ bytes a rest e. let f = reads.takes bytes a rest e in (f.0, there a f.1);
   again = λ a rest w. reads.again a rest (back a w);
@@ -364,7 +369,8 @@ module _ {A : Type 0} (word : List ℕ) (t : A → List ℕ) (V W : A → Type 0
               place = f.place;
               begins = elim f.begins [ inl none ↦ inl none | inr begun ↦ inr (begun.0, begun.1, inl begun.2, begun.3) ];
               firm = λ b rest other is.
-                  let still : begins_as word (f.front ++ b ∷ other) ≡ true = same_first word f.front b rest other ∙ ap (begins_as word) (ap (λ xs. f.front ++ xs) (sym is) ∙ sym f.parts) ∙ chosen in
+                  let still : begins_as word (f.front ++ b ∷ other) ≡ true =
+                  same_first word f.front b rest other ∙ ap (begins_as word) (ap (λ xs. f.front ++ xs) (sym is) ∙ sym f.parts) ∙ chosen in
                   rw still (f.firm b rest other is);
             }
         | inr passed ↦
@@ -377,7 +383,8 @@ module _ {A : Type 0} (word : List ℕ) (t : A → List ℕ) (V W : A → Type 0
               place = f.place;
               begins = elim f.begins [ inl none ↦ inl none | inr begun ↦ inr (begun.0, begun.1, inr begun.2, begun.3) ];
               firm = λ b rest other is.
-                  let still : begins_as word (f.front ++ b ∷ other) ≡ false = same_first word f.front b rest other ∙ ap (begins_as word) (ap (λ xs. f.front ++ xs) (sym is) ∙ sym f.parts) ∙ passed in
+                  let still : begins_as word (f.front ++ b ∷ other) ≡ false =
+                  same_first word f.front b rest other ∙ ap (begins_as word) (ap (λ xs. f.front ++ xs) (sym is) ∙ sym f.parts) ∙ passed in
                   rw still (f.firm b rest other is);
             }
       ]

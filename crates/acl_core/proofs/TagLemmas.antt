@@ -54,7 +54,8 @@ entries_with_none tag (e ∷ list) h =
     rw parts.0 (entries_with_none tag list parts.1)
 
 -- where no tag stands twice, one entry at most has a tag
-pub entries_with_once : (tag : Tag) (list : List Entry) → has_twice list ≡ false → (entries_with tag list ≡ []) ⊎ ((e : Entry) × (entries_with tag list ≡ e ∷ []))
+pub entries_with_once : (tag : Tag) (list : List Entry) → has_twice list ≡ false
+    → (entries_with tag list ≡ []) ⊎ ((e : Entry) × (entries_with tag list ≡ e ∷ []))
 entries_with_once tag [] once = inl refl
 entries_with_once tag (e ∷ list) once =
     let parts = or_parts (has_tag e.tag list) (has_twice list) once in

@@ -10,4 +10,5 @@ use Rattle.acl_core.specs.Text.{entry_text, next_text, list_text}
 pub list_text-cons : (e : Entry) (list : List Entry) → list_text (e ∷ list) ≡ entry_text e ++ flat_map next_text list
 unfolding list_text
 list_text-cons e [] = sym (append-nil (entry_text e))
-list_text-cons e (f ∷ list) = ap (λ more. entry_text e ++ (COMMA ∷ more)) (list_text-cons f list) ∙ ap (λ more. entry_text e ++ more) (sym (flat_map-cons next_text f list))
+list_text-cons e (f ∷ list) =
+    ap (λ more. entry_text e ++ (COMMA ∷ more)) (list_text-cons f list) ∙ ap (λ more. entry_text e ++ more) (sym (flat_map-cons next_text f list))

@@ -28,7 +28,8 @@ last_where test say o [] = o
 last_where test say o (e ∷ list) = last_where test say (cond (test e.tag) (say e) o) list
 
 -- the last of those that pass is the last that passes
-last_where_is : {V : Type 0} (test : Tag → Bool) (say : Entry → V) (o : V) (list : List Entry) → last_where test say o list ≡ last say o (filter (λ e. test e.tag) list)
+last_where_is : {V : Type 0} (test : Tag → Bool) (say : Entry → V) (o : V) (list : List Entry)
+    → last_where test say o list ≡ last say o (filter (λ e. test e.tag) list)
 last_where_is test say o [] = refl
 last_where_is test say o (e ∷ list) =
     elim (cases_Bool (test e.tag)) [
@@ -56,7 +57,8 @@ has_all-common p q want =
     ∙ and-and ((p.read || r) && (p.write || w)) ((q.read || r) && (q.write || w)) (p.exec || x) (q.exec || x)
 
 -- permissions that the mask limits have the bits where the mask and one of them have them
-pub any_limited : (mask want : Perm) (perms : List Perm) → list_any (λ p. has_all p want) (map (λ p. common p mask) perms) ≡ (list_any (λ p. has_all p want) perms && has_all mask want)
+pub any_limited : (mask want : Perm) (perms : List Perm)
+    → list_any (λ p. has_all p want) (map (λ p. common p mask) perms) ≡ (list_any (λ p. has_all p want) perms && has_all mask want)
 any_limited mask want [] = refl
 any_limited mask want (p ∷ perms) =
     ap (λ b. b || list_any (λ p. has_all p want) (map (λ p. common p mask) perms)) (has_all-common p mask want)
@@ -78,7 +80,8 @@ module _ (cred : Cred) (group : ℕ) (want : Perm) where
   walked-owner found (e ∷ list) = walked-owner (with_entry cred group want found e) list
 
   -- the user's entry that is found last
-  walked-user : (found : Findings) (list : List Entry) → (walked found list).user ≡ last_where (λ t. same_tag t (User cred.uid)) (λ e. Some (covers e)) found.user list
+  walked-user : (found : Findings) (list : List Entry)
+      → (walked found list).user ≡ last_where (λ t. same_tag t (User cred.uid)) (λ e. Some (covers e)) found.user list
   walked-user found [] = refl
   walked-user found (e ∷ list) = walked-user (with_entry cred group want found e) list
 
@@ -191,15 +194,18 @@ module _ (cred : Cred) (group : ℕ) (want : Perm) where
     some_or_none (e ∷ rest) = inr (e, rest, refl)
 
     -- of others than the owner and the named user
-    by_groups : answer_of None found.groups found ≡ any_has (cond (list_any (λ e. matches_group cred group e.tag) list) (limit_by (perms_at Mask list) (perms matching)) (perms_at Other list))
+    by_groups : answer_of None found.groups found ≡ any_has
+        (cond (list_any (λ e. matches_group cred group e.tag) list) (limit_by (perms_at Mask list) (perms matching)) (perms_at Other list))
     by_groups =
         elim (some_or_none matching) [
           | inl none ↦
               let groups : found.groups ≡ None = found_groups ∙ ap (groups_among None) none in
               rw (groups, list_any_is (λ e. matches_group cred group e.tag) list, none) found_other
           | inr some ↦
-              let groups : found.groups ≡ Some (any_has (perms matching)) = found_groups ∙ ap (groups_among None) some.2 ∙ groups_among_is None some.0 some.1 ∙ ap (λ xs. Some (any_has (perms xs))) (sym some.2) in
-              rw (groups, list_any_is (λ e. matches_group cred group e.tag) list, ap has_some some.2) (ap (λ m. any_has (perms matching) && m) found_mask ∙ sym (masked (perms matching)))
+              let groups : found.groups ≡ Some (any_has (perms matching)) =
+              found_groups ∙ ap (groups_among None) some.2 ∙ groups_among_is None some.0 some.1 ∙ ap (λ xs. Some (any_has (perms xs))) (sym some.2) in
+              rw (groups, list_any_is (λ e. matches_group cred group e.tag) list, ap has_some some.2)
+              (ap (λ m. any_has (perms matching) && m) found_mask ∙ sym (masked (perms matching)))
         ]
 
     decided_is : (is_owner : Bool) → answer is_owner found ≡ any_has (deciding_if is_owner)
@@ -211,7 +217,9 @@ module _ (cred : Cred) (group : ℕ) (want : Perm) where
               rw (user, list_any_is (λ e. same_tag e.tag (User cred.uid)) list, ap has_some none) by_groups
           | inr one ↦
               let user : found.user ≡ Some (covers one.0) = found_user ∙ ap (last (λ e. Some (covers e)) None) one.1 in
-              rw (user, list_any_is (λ e. same_tag e.tag (User cred.uid)) list, one.1) (ap (λ m. covers one.0 && m) found_mask ∙ ap (λ b. b && last covers true (entries_with Mask list)) (sym (or-false (covers one.0))) ∙ sym (masked (one.0.perm ∷ [])))
+              rw (user, list_any_is (λ e. same_tag e.tag (User cred.uid)) list, one.1)
+              (ap (λ m. covers one.0 && m) found_mask ∙ ap (λ b. b && last covers true (entries_with Mask list)) (sym (or-false (covers one.0)))
+              ∙ sym (masked (one.0.perm ∷ [])))
         ]
 
 -- a walk over a list without repeats decides as the definition does

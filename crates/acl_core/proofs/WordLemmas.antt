@@ -43,15 +43,20 @@ graphic_codes (b ∷ bytes) h =
 -- a tag has such a text
 graphic_tag : (tag : Tag) → qualifier tag < 2 ^ 32 → Graphic (tag_text tag)
 graphic_tag UserObj fits = graphic_codes (codes "user::") refl
-graphic_tag (User n) fits = graphic_append (codes "user:" ++ decimal n) (codes ":") (graphic_append (codes "user:") (decimal n) (graphic_codes (codes "user:") refl) (graphic_decimal n fits)) (graphic_codes (codes ":") refl)
+graphic_tag (User n) fits =
+    graphic_append (codes "user:" ++ decimal n) (codes ":")
+    (graphic_append (codes "user:") (decimal n) (graphic_codes (codes "user:") refl) (graphic_decimal n fits)) (graphic_codes (codes ":") refl)
 graphic_tag GroupObj fits = graphic_codes (codes "group::") refl
-graphic_tag (Group n) fits = graphic_append (codes "group:" ++ decimal n) (codes ":") (graphic_append (codes "group:") (decimal n) (graphic_codes (codes "group:") refl) (graphic_decimal n fits)) (graphic_codes (codes ":") refl)
+graphic_tag (Group n) fits =
+    graphic_append (codes "group:" ++ decimal n) (codes ":")
+    (graphic_append (codes "group:") (decimal n) (graphic_codes (codes "group:") refl) (graphic_decimal n fits)) (graphic_codes (codes ":") refl)
 graphic_tag Mask fits = graphic_codes (codes "mask::") refl
 graphic_tag Other fits = graphic_codes (codes "other::") refl
 
 -- a permission has such a text
 graphic_perm : (p : Perm) → Graphic (perm_text p)
-graphic_perm p = (letter 114 p.read (omega arith) (omega arith), (letter 119 p.write (omega arith) (omega arith), (letter 120 p.exec (omega arith) (omega arith), tt)))
+graphic_perm p =
+    (letter 114 p.read (omega arith) (omega arith), (letter 119 p.write (omega arith) (omega arith), (letter 120 p.exec (omega arith) (omega arith), tt)))
   where
     letter : (c : ℕ) (set : Bool) → 33 ≤ c → c ≤ 126 → (33 ≤ cond set c 45) × (cond set c 45 ≤ 126)
     letter c true low high = (low, high)
@@ -65,7 +70,8 @@ graphic_entry e fits = graphic_append (tag_text e.tag) (perm_text e.perm) (graph
 graphic_more : (list : List Entry) → AllByRecursion Fits list → Graphic (flat_map next_text list)
 graphic_more [] fits = tt
 graphic_more (e ∷ list) fits =
-    subst Graphic (sym (flat_map-cons next_text e list)) (graphic_append (next_text e) (flat_map next_text list) ((omega arith, omega arith), graphic_entry e fits.0) (graphic_more list fits.1))
+    subst Graphic (sym (flat_map-cons next_text e list))
+    (graphic_append (next_text e) (flat_map next_text list) ((omega arith, omega arith), graphic_entry e fits.0) (graphic_more list fits.1))
 
 -- the text of a tag is not empty
 some_text : (tag : Tag) (rest : List ℕ) → 0 < length (tag_text tag ++ rest)
@@ -91,9 +97,11 @@ list_is_word (e ∷ list) has_text =
 -- a tag has at most 17 bytes
 short_tag : (tag : Tag) → qualifier tag < 2 ^ 32 → length (tag_text tag) ≤ 17
 short_tag UserObj fits = omega arith
-short_tag (User n) fits = omega (arith, length-append (codes "user:" ++ decimal n) (codes ":"), length-append (codes "user:") (decimal n), length-decimal_32 n fits)
+short_tag (User n) fits =
+    omega (arith, length-append (codes "user:" ++ decimal n) (codes ":"), length-append (codes "user:") (decimal n), length-decimal_32 n fits)
 short_tag GroupObj fits = omega arith
-short_tag (Group n) fits = omega (arith, length-append (codes "group:" ++ decimal n) (codes ":"), length-append (codes "group:") (decimal n), length-decimal_32 n fits)
+short_tag (Group n) fits =
+    omega (arith, length-append (codes "group:" ++ decimal n) (codes ":"), length-append (codes "group:") (decimal n), length-decimal_32 n fits)
 short_tag Mask fits = omega arith
 short_tag Other fits = omega arith
 
@@ -105,7 +113,8 @@ short_entry e fits = omega (arith, length-append (tag_text e.tag) (perm_text e.p
 short_more : (list : List Entry) → AllByRecursion Fits list → length (flat_map next_text list) ≤ 21 * length list
 short_more [] fits = omega arith
 short_more (e ∷ list) fits =
-    let cons : length (flat_map next_text (e ∷ list)) ≡ length (next_text e) + length (flat_map next_text list) = ap length (flat_map-cons next_text e list) ∙ length-append (next_text e) (flat_map next_text list) in
+    let cons : length (flat_map next_text (e ∷ list)) ≡ length (next_text e) + length (flat_map next_text list) =
+    ap length (flat_map-cons next_text e list) ∙ length-append (next_text e) (flat_map next_text list) in
     omega (arith, cons, short_entry e fits.0, short_more list fits.1)
 
 -- 64 entries have at most 1,343
@@ -113,5 +122,6 @@ pub list_is_short : (list : List Entry) → HasText list → length (list_text l
 unfolding list_text
 list_is_short [] has_text = omega arith
 list_is_short (e ∷ list) has_text =
-    let cons : length (list_text (e ∷ list)) ≡ length (entry_text e) + length (flat_map next_text list) = ap length (list_text-cons e list) ∙ length-append (entry_text e) (flat_map next_text list) in
+    let cons : length (list_text (e ∷ list)) ≡ length (entry_text e) + length (flat_map next_text list) =
+    ap length (list_text-cons e list) ∙ length-append (entry_text e) (flat_map next_text list) in
     omega (arith, cons, short_entry e has_text.fit.0, short_more list has_text.fit.1, has_text.most)

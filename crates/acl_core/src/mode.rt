@@ -7,7 +7,7 @@ use crate::valid::has_tag;
 use crate::{Entry, MOST_ENTRIES, Perm, Tag};
 use arrayvec::ArrayVec;
 
-/// The greatest mode: all bits for the owner, the group and others.
+/// The greatest mode (chmod(2)): all bits for the owner, the group and others.
 pub const MODE_MOST: u16 = 0o777;
 
 fn owner_bits(mode: u16) -> Perm

@@ -118,8 +118,9 @@ fn push_list(out: &mut Text, entries: &[Entry])
     }
 }
 
-/// Appends the text of at most 64 entries, the first ones, in the order given: the entries joined
-/// by commas, or `-` where there is none.
+/// Appends the text of at most 64 entries, the first ones, in the order given (acl_to_text(3)): the
+/// entries joined by commas, or `-` where there is none. It has at most 1,343 bytes, and 1,400 of the
+/// 4,096 are to be free.
 #[tactic(auto, using(std::proofs::lemmas::List::take_min))]
 pub fn print_entries(entries: &[Entry], out: &mut ArrayVec<u8, TEXT_ROOM>)
     requires { array_vec_len out.old + LIST_ROOM ≤ TEXT_ROOM }
@@ -129,8 +130,8 @@ pub fn print_entries(entries: &[Entry], out: &mut ArrayVec<u8, TEXT_ROOM>)
     push_list(out, &entries[..MOST_ENTRIES.min(entries.len())]);
 }
 
-/// Appends the text of a list: user, users by number, group, groups by number, mask and other,
-/// joined by commas.
+/// Appends the text of a list (acl_to_text(3)): user, users by number, group, groups by number, mask
+/// and other, joined by commas. It has at most 1,343 bytes, and 1,400 of the 4,096 are to be free.
 pub fn print_list(list: &Acl, out: &mut ArrayVec<u8, TEXT_ROOM>)
     requires { array_vec_len out.old + LIST_ROOM ≤ TEXT_ROOM }
     ensures text { out.new.items ≡ out.old.items ++ list_text list.now }

@@ -175,10 +175,10 @@ fn list_at(bytes: &[u8]) -> Result<ArrayVec<Entry, MOST_ENTRIES>, Stop>
     }
 }
 
-/// The entries of a text, in their order, whether they make a list or not. The text is `-`, or at
-/// most 64 entries joined by commas: `user::P`, `user:UID:P`, `group::P`, `group:GID:P`, `mask::P`
-/// or `other::P`, with three letters such as `r-x` for P and a number of 32 bits, in decimal
-/// without leading zeros, for UID and GID.
+/// The entries of a text, in their order, whether they make a list or not (acl_from_text(3)). The
+/// text is `-`, or at most 64 entries joined by commas: `user::P`, `user:UID:P`, `group::P`,
+/// `group:GID:P`, `mask::P` or `other::P`, with three letters such as `r-x` for P and a number of 32
+/// bits, in decimal without leading zeros, for UID and GID.
 #[tactic(auto, unfolding(crate::specs::Reading::read_of))]
 pub fn read_list(text: &[u8]) -> Result<ArrayVec<Entry, MOST_ENTRIES>, ListFault>
     // What is read is spelled so.
