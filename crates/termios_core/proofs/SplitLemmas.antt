@@ -10,7 +10,7 @@ use Rattle.std.proofs.lemmas.List.Quantifiers.{position-Some}
 use Rattle.std.proofs.lemmas.List.Splits.{slice_split_none, slice_split_at}
 use Rattle.termios_core.specs.Text.{colon}
 use Rattle.termios_core.specs.Reading.{parts, around_colon}
-use Rattle.termios_core.proofs.Cases.{mapped}
+use Rattle.termios_core.proofs.CaseLemmas.{some_of_map}
 
 -- no byte of the text is this one
 abbrev pub Lacks : ℕ → List ℕ → Type 0
@@ -50,15 +50,17 @@ around_colon-at front rest h =
     let within : ltb (length front) (length text) ≡ true = lt-ltb _ _ (omega (arith, length-append front (colon ∷ rest))) in
     let found : position (λ b. eqb b colon) text ≡ Some (length front) = rw (place, within) refl in
     let regrouped : text ≡ (front ++ colon ∷ []) ++ rest = sym (append_assoc front (colon ∷ []) rest) in
-    let behind : drop (length front + 1) text ≡ rest = ap (drop (length front + 1)) regrouped ∙ drop_at (front ++ colon ∷ []) rest (length front + 1) (length-append front (colon ∷ [])) in
+    let behind : drop (length front + 1) text ≡ rest =
+    ap (drop (length front + 1)) regrouped ∙ drop_at (front ++ colon ∷ []) rest (length front + 1) (length-append front (colon ∷ [])) in
     ap (option_map (λ (k : ℕ). (take k text, drop (k + 1) text))) found ∙ rw (take_at front (colon ∷ rest) (length front) refl, behind) refl
 
 -- a text that is cut is its front, a colon and its rest
 pub around_colon-some : (text : List ℕ) (sides : List ℕ × List ℕ) → around_colon text ≡ Some sides → text ≡ sides.0 ++ colon ∷ sides.1
 around_colon-some text sides e =
-    let cut = mapped (λ (k : ℕ). (take k text, drop (k + 1) text)) (position (λ b. eqb b colon) text) sides e in
+    let cut = some_of_map (λ (k : ℕ). (take k text, drop (k + 1) text)) (position (λ b. eqb b colon) text) sides e in
     let k = cut.0 in
     let place = position-Some (λ b. eqb b colon) text k 0 cut.1 in
     let here : get_or text k 0 ≡ colon = eqb-true _ _ place.1 in
-    let rest : drop k text ≡ colon ∷ drop (k + 1) text = drop-cons text k 0 place.0 ∙ ap (λ (b : ℕ). b ∷ drop (suc k) text) here ∙ ap (λ (n : ℕ). colon ∷ drop n text) (sym (add-one k)) in
+    let rest : drop k text ≡ colon ∷ drop (k + 1) text =
+    drop-cons text k 0 place.0 ∙ ap (λ (b : ℕ). b ∷ drop (suc k) text) here ∙ ap (λ (n : ℕ). colon ∷ drop n text) (sym (add-one k)) in
     sym (take-append-drop k text) ∙ ap (λ (r : List ℕ). take k text ++ r) rest ∙ ap (λ (s : List ℕ × List ℕ). s.0 ++ colon ∷ s.1) (sym cut.2)

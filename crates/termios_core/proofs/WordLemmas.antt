@@ -10,8 +10,8 @@ use Rattle.termios_core.specs.declared.flags.Flag.TheVariants.{Istrip, Inlcr, Ig
 use Rattle.termios_core.specs.Flags.{all_flags, word}
 use Rattle.termios_core.specs.Text.{IsGraphic}
 use Rattle.termios_core.specs.Reading.{flag_of}
-use Rattle.termios_core.proofs.Cases.{both, picked, some_is}
-use Rattle.termios_core.proofs.Splitting.{Lacks}
+use Rattle.termios_core.proofs.CaseLemmas.{both, choice_cases, some_is}
+use Rattle.termios_core.proofs.SplitLemmas.{Lacks}
 
 -- from a to z
 abbrev is_letter : ℕ → Bool
@@ -115,7 +115,7 @@ flag_of-word Tostop = refl
 
 find_passes : {X : Type 0} (test : X → Bool) (xs : List X) (x : X) → find test xs ≡ Some x → test x ≡ true
 find_passes test [] x e = absurd cc
-find_passes test (y ∷ xs) x e = elim (picked (test y) (Some y) (find test xs) (Some x) e) [
+find_passes test (y ∷ xs) x e = elim (choice_cases (test y) (Some y) (find test xs) (Some x) e) [
   | inl here ↦ ap test (sym (some_is y x here.1)) ∙ here.0
   | inr there ↦ find_passes test xs x there.1
 ]

@@ -8,7 +8,8 @@ some_parts : (n : ℕ) → eqb (suc n) 0 ≡ false
 some_parts n = grind (arith, nat_tests)
 
 -- one part more
-pub join_with_byte-push : (c : ℕ) (xs : List (List ℕ)) (x : List ℕ) → join_with_byte c (xs ++ x ∷ []) ≡ join_with_byte c xs ++ (cond (eqb (length xs) 0) [] (c ∷ []) ++ x)
+pub join_with_byte-push : (c : ℕ) (xs : List (List ℕ)) (x : List ℕ)
+    → join_with_byte c (xs ++ x ∷ []) ≡ join_with_byte c xs ++ (cond (eqb (length xs) 0) [] (c ∷ []) ++ x)
 join_with_byte-push c [] x = refl
 join_with_byte-push c (y ∷ []) x = refl
 join_with_byte-push c (y ∷ z ∷ xs) x =
@@ -22,7 +23,8 @@ pub join_more : {X : Type 0} (f : X → List ℕ) (c : ℕ) (xs : List X) (x : X
 join_more f c xs x old before between after b m a =
     let gap : List ℕ = cond (eqb (length xs) 0) [] (c ∷ []) in
     let joined : join_with_byte c (map f (xs ++ x ∷ [])) ≡ join_with_byte c (map f xs) ++ (gap ++ f x) =
-    ap (join_with_byte c) (map_push f xs x) ∙ join_with_byte-push c (map f xs) (f x) ∙ ap (λ (n : ℕ). join_with_byte c (map f xs) ++ (cond (eqb n 0) [] (c ∷ []) ++ f x)) (length-map xs f) in
+    ap (join_with_byte c) (map_push f xs x) ∙ join_with_byte-push c (map f xs) (f x)
+    ∙ ap (λ (n : ℕ). join_with_byte c (map f xs) ++ (cond (eqb n 0) [] (c ∷ []) ++ f x)) (length-map xs f) in
     rw (a, m, b, joined) (append_assoc (old ++ join_with_byte c (map f xs)) gap (f x) ∙ append_assoc old (join_with_byte c (map f xs)) (gap ++ f x))
 
 -- three parts, one after the other

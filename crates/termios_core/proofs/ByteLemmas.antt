@@ -10,12 +10,12 @@ use Rattle.std.proofs.lemmas.Str.{IsUtf8-from_ascii}
 use Rattle.std.proofs.lemmas.Str.Parse.{digit_at, numerals_by_value, tells_digits, parse_plain}
 use Rattle.std.proofs.lemmas.Fmt.{decimal_is_IsNumeral, decimal_digit, decimal_nonempty, first_decimal, IsAscii-decimal, decimal-digits_value}
 use Rattle.termios_core.specs.Reading.{byte_of}
-use Rattle.termios_core.proofs.Cases.{both, guarded, chosen}
+use Rattle.termios_core.proofs.CaseLemmas.{both, none_of_choice, some_of_choice}
 
 -- what is no decimal text of a byte is not read
 pub byte_of_other : (text : List ℕ) → ((n : ℕ) → n < 256 → text ≡ decimal n → ⊥) → byte_of text ≡ None
 byte_of_other text other =
-    guarded (ltb (digits_value 10 text) 256 && bytes_eq (decimal (digits_value 10 text)) text) (digits_value 10 text) (λ e.
+    none_of_choice (ltb (digits_value 10 text) 256 && bytes_eq (decimal (digits_value 10 text)) text) (digits_value 10 text) (λ e.
     let parts = both (ltb (digits_value 10 text) 256) (bytes_eq (decimal (digits_value 10 text)) text) e in
     other (digits_value 10 text) (ltb-true _ _ parts.0) (sym ((bytes_eq-Decides (decimal (digits_value 10 text)) text).0 parts.1)))
 
@@ -34,7 +34,7 @@ byte_of-decimal n h =
 pub byte_of_some : (text : List ℕ) (n : ℕ) → byte_of text ≡ Some n → (text ≡ decimal n) × (n < 256)
 byte_of_some text n e =
     let value = digits_value 10 text in
-    let read = chosen (ltb value 256 && bytes_eq (decimal value) text) value n e in
+    let read = some_of_choice (ltb value 256 && bytes_eq (decimal value) text) value n e in
     let parts = both (ltb value 256) (bytes_eq (decimal value) text) read.0 in
     let low : value < 256 = ltb-true _ _ parts.0 in
     (sym ((bytes_eq-Decides (decimal value) text).0 parts.1) ∙ ap decimal read.1, omega (arith, read.1))
@@ -62,9 +62,12 @@ byte_of_zero text h long = byte_of_other text (λ n low e. elim (cases_zero n) [
 ])
 
 pub byte_of_not_utf8 : (text : List ℕ) → ¬ (IsUtf8 text) → byte_of text ≡ None
-byte_of_not_utf8 text h = byte_of_other text (λ n low e. absurd (h (let P : List ℕ → Type 0 = IsUtf8 in subst P (sym e) (IsUtf8-from_ascii (decimal n) (IsAscii-decimal n (wide n low))))))
+byte_of_not_utf8 text h =
+    byte_of_other text
+    (λ n low e. absurd (h (let P : List ℕ → Type 0 = IsUtf8 in subst P (sym e) (IsUtf8-from_ascii (decimal n) (IsAscii-decimal n (wide n low))))))
 
-parsed : {E : Type 0} (text : List ℕ) (r : Result ℕ E) → OkIff r (AllDigits 10 text × (0 < length text) × (digits_value 10 text < 2 ^ 8)) (digits_value 10 text) → 0 < length text → (get_or text 0 0 ≡ 48 → length text ≡ 1) → result_ok r ≡ byte_of text
+parsed : {E : Type 0} (text : List ℕ) (r : Result ℕ E) → OkIff r (AllDigits 10 text × (0 < length text) × (digits_value 10 text < 2 ^ 8)) (digits_value 10 text)
+    → 0 < length text → (get_or text 0 0 ≡ 48 → length text ≡ 1) → result_ok r ≡ byte_of text
 parsed text (Ok x) h some zeros =
     let value = digits_value 10 text in
     let low : value < 256 = omega (arith, h.0.2) in
@@ -77,7 +80,8 @@ parsed text (Err e) h some zeros = sym (byte_of_other text (λ n low is. absurd 
     (digits, some, omega (arith, value))))))
 
 -- what `parse` reads of a text with no sign and no leading zero
-pub byte_of_parsed : {E : Type 0} (text : List ℕ) (r : Result ℕ E) → ParsesUnsigned 8 10 text r → 0 < length text → get_or text 0 0 ≢ 43 → (get_or text 0 0 ≡ 48 → length text ≡ 1) → result_ok r ≡ byte_of text
+pub byte_of_parsed : {E : Type 0} (text : List ℕ) (r : Result ℕ E) → ParsesUnsigned 8 10 text r → 0 < length text → get_or text 0 0 ≢ 43
+    → (get_or text 0 0 ≡ 48 → length text ≡ 1) → result_ok r ≡ byte_of text
 byte_of_parsed text r h some plain zeros = parsed text r (parse_plain (numerals_by_value _ tells_digits) 8 text r h plain) some zeros
 
 -- the texts of no byte

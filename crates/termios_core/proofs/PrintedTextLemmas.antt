@@ -12,7 +12,7 @@ use Rattle.termios_core.specs.declared.termios.Termios.{Termios}
 use Rattle.termios_core.specs.Flags.{all_flags, word, is_on, on_flags}
 use Rattle.termios_core.specs.Termios.{numbers, HasBytes}
 use Rattle.termios_core.specs.Text.{comma, plus, flags_text, numbers_text, termios_text, IsGraphic, IsWord}
-use Rattle.termios_core.proofs.Words.{word_graphic, length-word}
+use Rattle.termios_core.proofs.WordLemmas.{word_graphic, length-word}
 
 graphic-append : (xs ys : List ℕ) → AllByRecursion IsGraphic xs → AllByRecursion IsGraphic ys → AllByRecursion IsGraphic (xs ++ ys)
 graphic-append [] ys h k = k
@@ -49,13 +49,13 @@ flags_short : (flags : List Flag) → length (flags_text flags) ≤ 8 * length f
 flags_short [] = omega arith
 flags_short (flag ∷ flags) = omega (arith, length-join comma 7 (map word (flag ∷ flags)) (words_short (flag ∷ flags)), length-map flags word)
 
-kept_or_not : (b : Bool) (flag : Flag) (kept : List Flag) → length (cond b (flag ∷ kept) kept) ≤ length kept + 1
-kept_or_not true flag kept = omega arith
-kept_or_not false flag kept = omega arith
+length_choice : (b : Bool) (flag : Flag) (kept : List Flag) → length (cond b (flag ∷ kept) kept) ≤ length kept + 1
+length_choice true flag kept = omega arith
+length_choice false flag kept = omega arith
 
 length-filter-le : (p : Flag → Bool) (flags : List Flag) → length (filter p flags) ≤ length flags
 length-filter-le p [] = omega arith
-length-filter-le p (flag ∷ flags) = omega (arith, kept_or_not (p flag) flag (filter p flags), length-filter-le p flags)
+length-filter-le p (flag ∷ flags) = omega (arith, length_choice (p flag) flag (filter p flags), length-filter-le p flags)
 
 on_at_most : (flags : Flags) → length (on_flags flags) ≤ 19
 unfolding on_flags

@@ -57,37 +57,37 @@ and_yes : (b : Bool) → (b && true) ≡ b
 and_yes true = refl
 and_yes false = refl
 
-any_kept : (b : Bool) (p : Flag → Bool) (flag : Flag) (kept : List Flag) → list_any p (cond b (flag ∷ kept) kept) ≡ ((p flag && b) || list_any p kept)
-any_kept true p flag kept = ap (λ (x : Bool). x || list_any p kept) (sym (and_yes (p flag)))
-any_kept false p flag kept = ap (λ (x : Bool). x || list_any p kept) (sym (and_no (p flag)))
+any_choice : (b : Bool) (p : Flag → Bool) (flag : Flag) (kept : List Flag) → list_any p (cond b (flag ∷ kept) kept) ≡ ((p flag && b) || list_any p kept)
+any_choice true p flag kept = ap (λ (x : Bool). x || list_any p kept) (sym (and_yes (p flag)))
+any_choice false p flag kept = ap (λ (x : Bool). x || list_any p kept) (sym (and_no (p flag)))
 
 list_any-filter : (p q : Flag → Bool) (list : List Flag) → list_any p (filter q list) ≡ list_any (λ flag. p flag && q flag) list
 list_any-filter p q [] = refl
-list_any-filter p q (flag ∷ list) = any_kept (q flag) p flag (filter q list) ∙ ap (λ (x : Bool). (p flag && q flag) || x) (list_any-filter p q list)
+list_any-filter p q (flag ∷ list) = any_choice (q flag) p flag (filter q list) ∙ ap (λ (x : Bool). (p flag && q flag) || x) (list_any-filter p q list)
 
 -- among all flags, each is found once
-found_once : (flags : Flags) (flag : Flag) → list_any (λ other. is_same flag other && is_on flags other) all_flags ≡ is_on flags flag
-found_once flags Istrip = or_none flags.istrip
-found_once flags Inlcr = or_none flags.inlcr
-found_once flags Igncr = or_none flags.igncr
-found_once flags Icrnl = or_none flags.icrnl
-found_once flags Ixon = or_none flags.ixon
-found_once flags Opost = or_none flags.opost
-found_once flags Onlcr = or_none flags.onlcr
-found_once flags Ocrnl = or_none flags.ocrnl
-found_once flags Clocal = or_none flags.clocal
-found_once flags Hupcl = or_none flags.hupcl
-found_once flags Isig = or_none flags.isig
-found_once flags Icanon = or_none flags.icanon
-found_once flags Echo = or_none flags.echo
-found_once flags Echoe = or_none flags.echoe
-found_once flags Echok = or_none flags.echok
-found_once flags Echonl = or_none flags.echonl
-found_once flags Echoctl = or_none flags.echoctl
-found_once flags Noflsh = or_none flags.noflsh
-found_once flags Tostop = or_none flags.tostop
+is_found_once : (flags : Flags) (flag : Flag) → list_any (λ other. is_same flag other && is_on flags other) all_flags ≡ is_on flags flag
+is_found_once flags Istrip = or_none flags.istrip
+is_found_once flags Inlcr = or_none flags.inlcr
+is_found_once flags Igncr = or_none flags.igncr
+is_found_once flags Icrnl = or_none flags.icrnl
+is_found_once flags Ixon = or_none flags.ixon
+is_found_once flags Opost = or_none flags.opost
+is_found_once flags Onlcr = or_none flags.onlcr
+is_found_once flags Ocrnl = or_none flags.ocrnl
+is_found_once flags Clocal = or_none flags.clocal
+is_found_once flags Hupcl = or_none flags.hupcl
+is_found_once flags Isig = or_none flags.isig
+is_found_once flags Icanon = or_none flags.icanon
+is_found_once flags Echo = or_none flags.echo
+is_found_once flags Echoe = or_none flags.echoe
+is_found_once flags Echok = or_none flags.echok
+is_found_once flags Echonl = or_none flags.echonl
+is_found_once flags Echoctl = or_none flags.echoctl
+is_found_once flags Noflsh = or_none flags.noflsh
+is_found_once flags Tostop = or_none flags.tostop
 
 -- the flags that are on are the flags
 pub flags_of-on_flags : (flags : Flags) → flags_of (on_flags flags) ≡ flags
 unfolding on_flags
-flags_of-on_flags flags = flags_where-same _ (is_on flags) (λ flag. list_any-filter (is_same flag) (is_on flags) all_flags ∙ found_once flags flag)
+flags_of-on_flags flags = flags_where-same _ (is_on flags) (λ flag. list_any-filter (is_same flag) (is_on flags) all_flags ∙ is_found_once flags flag)
