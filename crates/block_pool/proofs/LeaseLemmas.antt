@@ -3,7 +3,7 @@ use Rattle.std.proofs.Common.{◌≡◌, ℕ, ◌+◌, ◌<◌, ◌≤◌, cond,
 use Rattle.std.specs.List.{range_with_len}
 use Rattle.std.proofs.lemmas.Bool.Decides.{nat_tests}
 use Rattle.block_pool.specs.Pool.{PoolState, times, blocks_of_number, AreOf, AreAllOf, AreApart, Lends, WritesTo}
-use Rattle.block_pool.proofs.Times.{times-append, times-get_or, times-contained, times-range, length_le_size, length_all}
+use Rattle.block_pool.proofs.TimesLemmas.{times-append, times-get_or, times-contained, times-range, length_le_size, length_all}
 
 -- a leased block stands in its lease once
 pub once_leased : (pool : PoolState) (blocks : List ℕ) → AreOf pool blocks → (n : ℕ) → times n blocks ≤ 1
@@ -35,7 +35,8 @@ leased_not_free pool blocks leased n one other =
     absurd (grind (arith, leased.once n, times-append n pool.free blocks))
 
 -- what lending does to the free blocks and the leased ones together
-times_lent : (lease : List ℕ) (old new : PoolState) (leased : List ℕ) → Lends lease old new → (n : ℕ) → times n (new.free ++ (lease ++ leased)) ≡ times n (old.free ++ leased)
+times_lent : (lease : List ℕ) (old new : PoolState) (leased : List ℕ) → Lends lease old new → (n : ℕ)
+    → times n (new.free ++ (lease ++ leased)) ≡ times n (old.free ++ leased)
 times_lent lease old new leased lent n = ap (times n) (sym (append_assoc new.free lease leased) ∙ ap (λ xs. xs ++ leased) (sym lent.free))
 
 -- lending keeps the number of blocks of each number
@@ -115,7 +116,8 @@ all_written own old new leased writes before = record {
 }
 
 -- two leases reserved one after the other are of the pool together
-pub reserved_in_turn : (first second : List ℕ) (start middle last : PoolState) → AreOf start [] → Lends first start middle → Lends second middle last → AreOf last (second ++ first)
+pub reserved_in_turn : (first second : List ℕ) (start middle last : PoolState) → AreOf start [] → Lends first start middle → Lends second middle last
+    → AreOf last (second ++ first)
 reserved_in_turn first second start middle last none lends_first lends_second =
     let one : AreOf middle (first ++ []) = leased_lent first start middle [] lends_first none in
     let alone : AreOf middle first = leased_part middle first [] one in

@@ -5,9 +5,9 @@ use Rattle.std.proofs.lemmas.List.{length-replicate, ext_get_or, get_or-set_same
 use Rattle.std.proofs.lemmas.Bool.{cases_eq}
 use Rattle.std.proofs.lemmas.List.Concat.{get_or-flat_map}
 use Rattle.std.proofs.lemmas.List.Elements.{All-head, All-tail, All-take, All-push, Contains-get_or}
-use Rattle.block_pool.specs.Pool.{PoolState, contents, laid, times, AreOf, AreApart, WritesTo}
-use Rattle.block_pool.proofs.Times.{same_place}
-use Rattle.block_pool.proofs.Leases.{once_leased, leased_below}
+use Rattle.block_pool.specs.Pool.{PoolState, contents, bytes_in, times, AreOf, AreApart, WritesTo}
+use Rattle.block_pool.proofs.TimesLemmas.{same_place}
+use Rattle.block_pool.proofs.LeaseLemmas.{once_leased, leased_below}
 
 -- whole blocks with one more
 pub whole_more : (blocks : List (List ℕ)) → All (λ bytes. length bytes ≡ 128) blocks → All (λ bytes. length bytes ≡ 128) (blocks ++ replicate 128 0 ∷ [])
@@ -18,24 +18,25 @@ pub record AreWhole (pool : PoolState) (blocks : List ℕ) : Type 0 where
   pub whole : All (λ b. length (contents pool b) ≡ 128) blocks
 
 -- blocks have 128 bytes each
-pub length-laid : (pool : PoolState) (blocks : List ℕ) → AreWhole pool blocks → length (laid pool blocks) ≡ 128 * length blocks
-length-laid pool [] w = refl
-length-laid pool (b ∷ bs) w =
+pub length-bytes_in : (pool : PoolState) (blocks : List ℕ) → AreWhole pool blocks → length (bytes_in pool blocks) ≡ 128 * length blocks
+length-bytes_in pool [] w = refl
+length-bytes_in pool (b ∷ bs) w =
     let here : length (contents pool b) ≡ 128 = All-head (λ c. length (contents pool c) ≡ 128) b bs w.whole in
-    let rest = length-laid pool bs (record { whole = All-tail (λ c. length (contents pool c) ≡ 128) b bs w.whole }) in
-    omega (arith, length-append (contents pool b) (laid pool bs), here, rest)
+    let rest = length-bytes_in pool bs (record { whole = All-tail (λ c. length (contents pool c) ≡ 128) b bs w.whole }) in
+    omega (arith, length-append (contents pool b) (bytes_in pool bs), here, rest)
 
 -- the byte in a place of blocks is in the block that has that place
-pub get_or-laid : (pool : PoolState) (blocks : List ℕ) (q : ℕ) → AreWhole pool blocks → q < 128 * length blocks → get_or (laid pool blocks) q 0 ≡ get_or (contents pool (get_or blocks (q / 128) 0)) (q % 128) 0
-get_or-laid pool blocks q w below =
+pub get_or-bytes_in : (pool : PoolState) (blocks : List ℕ) (q : ℕ) → AreWhole pool blocks → q < 128 * length blocks
+    → get_or (bytes_in pool blocks) q 0 ≡ get_or (contents pool (get_or blocks (q / 128) 0)) (q % 128) 0
+get_or-bytes_in pool blocks q w below =
     let k : ℕ = q / 128 in
     let inside : q / 128 < length blocks = omega arith in
     let whole : length (contents pool (get_or blocks (q / 128) 0)) ≡ 128 = w.whole (q / 128) 0 inside in
-    let before : length (laid pool (take (q / 128) blocks)) ≡ 128 * (q / 128) =
-    length-laid pool (take (q / 128) blocks) (record { whole = All-take (λ c. length (contents pool c) ≡ 128) (q / 128) blocks w.whole })
+    let before : length (bytes_in pool (take (q / 128) blocks)) ≡ 128 * (q / 128) =
+    length-bytes_in pool (take (q / 128) blocks) (record { whole = All-take (λ c. length (contents pool c) ≡ 128) (q / 128) blocks w.whole })
     ∙ ap (λ n. 128 * n) (length-take-le (q / 128) blocks (omega arith)) in
-    let at : length (laid pool (take (q / 128) blocks)) + q % 128 ≡ q = omega (arith, before) in
-    ap (λ n. get_or (laid pool blocks) n 0) (sym at)
+    let at : length (bytes_in pool (take (q / 128) blocks)) + q % 128 ≡ q = omega (arith, before) in
+    ap (λ n. get_or (bytes_in pool blocks) n 0) (sym at)
     ∙ get_or-flat_map (contents pool) blocks (q / 128) (q % 128) 0 0 inside (omega (arith, whole))
 
 -- a pool after a byte was put into a place of a block
@@ -55,68 +56,78 @@ pub length-contents-put : (pool : PoolState) (b o v c : ℕ) → b < length pool
 length-contents-put pool b o v c h = grind (arith, contents-put_same pool b o v h, contents-put_other pool b o v c, length-set (contents pool b) o v)
 
 -- the byte in a place of blocks, of which none is twice, after a byte was put into a place
-get_or-laid_put : (pool : PoolState) (blocks : List ℕ) (p v q : ℕ) → AreWhole pool blocks → ((n : ℕ) → times n blocks ≤ 1) → p < 128 * length blocks → q < 128 * length blocks → get_or blocks (p / 128) 0 < length pool.blocks →
-    get_or (contents (put_at pool (get_or blocks (p / 128) 0) (p % 128) v) (get_or blocks (q / 128) 0)) (q % 128) 0 ≡ get_or (set (laid pool blocks) p v) q 0
-get_or-laid_put pool blocks p v q w once hp hq inside =
+get_or-bytes_in_put : (pool : PoolState) (blocks : List ℕ) (p v q : ℕ) → AreWhole pool blocks → ((n : ℕ) → times n blocks ≤ 1) → p < 128 * length blocks
+    → q < 128 * length blocks → get_or blocks (p / 128) 0 < length pool.blocks →
+    get_or (contents (put_at pool (get_or blocks (p / 128) 0) (p % 128) v) (get_or blocks (q / 128) 0)) (q % 128) 0
+    ≡ get_or (set (bytes_in pool blocks) p v) q 0
+get_or-bytes_in_put pool blocks p v q w once hp hq inside =
     let b : ℕ = get_or blocks (p / 128) 0 in
     let o : ℕ = p % 128 in
     let whole : length (contents pool (get_or blocks (p / 128) 0)) ≡ 128 = w.whole (p / 128) 0 (omega arith) in
-    let all_bytes = length-laid pool blocks w in
-    let before = get_or-laid pool blocks q w hq in
+    let all_bytes = length-bytes_in pool blocks w in
+    let before = get_or-bytes_in pool blocks q w hq in
     let in_block : p % 128 < length (contents pool (get_or blocks (p / 128) 0)) = omega (arith, whole) in
     elim (cases_eq (q / 128) (p / 128)) [
       | inl same ↦
           rw (same, contents-put_same pool b o v inside) (elim (cases_eq q p) [
-            | inl here ↦ rw here (get_or-set_same (contents pool b) o v 0 in_block ∙ sym (get_or-set_same (laid pool blocks) p v 0 (omega (arith, all_bytes))))
+            | inl here ↦
+                rw here (get_or-set_same (contents pool b) o v 0 in_block ∙ sym (get_or-set_same (bytes_in pool blocks) p v 0 (omega (arith, all_bytes))))
             | inr there ↦
                 let apart : q % 128 ≢ p % 128 = λ e. there (omega arith) in
                 get_or-set_other (contents pool b) o (q % 128) v 0 apart
                 ∙ ap (λ k. get_or (contents pool (get_or blocks k 0)) (q % 128) 0) (sym same)
-                ∙ sym before ∙ sym (get_or-set_other (laid pool blocks) p q v 0 there)
+                ∙ sym before ∙ sym (get_or-set_other (bytes_in pool blocks) p q v 0 there)
           ])
       | inr other ↦
           let not_there : q ≢ p = λ e. other (ap (λ n. n / 128) e) in
-          let other_block : get_or blocks (q / 128) 0 ≢ get_or blocks (p / 128) 0 = λ e. other (same_place blocks (q / 128) (p / 128) (omega arith) (omega arith) once e) in
+          let other_block : get_or blocks (q / 128) 0 ≢ get_or blocks (p / 128) 0 =
+          λ e. other (same_place blocks (q / 128) (p / 128) (omega arith) (omega arith) once e) in
           ap (λ xs. get_or xs (q % 128) 0) (contents-put_other pool b o v (get_or blocks (q / 128) 0) other_block)
-          ∙ sym before ∙ sym (get_or-set_other (laid pool blocks) p q v 0 not_there)
+          ∙ sym before ∙ sym (get_or-set_other (bytes_in pool blocks) p q v 0 not_there)
     ]
 
 -- blocks of which none is twice, with a byte put into a place, are changed at that place
-laid_put : (pool : PoolState) (blocks : List ℕ) (p v : ℕ) → AreWhole pool blocks → ((n : ℕ) → times n blocks ≤ 1) → p < 128 * length blocks → get_or blocks (p / 128) 0 < length pool.blocks →
-    laid (put_at pool (get_or blocks (p / 128) 0) (p % 128) v) blocks ≡ set (laid pool blocks) p v
-laid_put pool blocks p v w once below inside =
+bytes_in_put : (pool : PoolState) (blocks : List ℕ) (p v : ℕ) → AreWhole pool blocks → ((n : ℕ) → times n blocks ≤ 1) → p < 128 * length blocks
+    → get_or blocks (p / 128) 0 < length pool.blocks →
+    bytes_in (put_at pool (get_or blocks (p / 128) 0) (p % 128) v) blocks ≡ set (bytes_in pool blocks) p v
+bytes_in_put pool blocks p v w once below inside =
     let b : ℕ = get_or blocks (p / 128) 0 in
     let new : PoolState = put_at pool (get_or blocks (p / 128) 0) (p % 128) v in
     let w2 : AreWhole new blocks = record { whole = λ k d h. length-contents-put pool b (p % 128) v (get_or blocks k d) inside ∙ w.whole k d h } in
-    let old_len = length-laid pool blocks w in
-    let new_len = length-laid new blocks w2 in
-    ext_get_or 0 (laid new blocks) (set (laid pool blocks) p v) (omega (arith, old_len, new_len, length-set (laid pool blocks) p v)) (λ q h.
+    let old_len = length-bytes_in pool blocks w in
+    let new_len = length-bytes_in new blocks w2 in
+    ext_get_or 0 (bytes_in new blocks) (set (bytes_in pool blocks) p v) (omega (arith, old_len, new_len, length-set (bytes_in pool blocks) p v)) (λ q h.
     let below_q : q < 128 * length blocks = omega (arith, new_len, h) in
-    get_or-laid new blocks q w2 below_q ∙ get_or-laid_put pool blocks p v q w once below below_q inside)
+    get_or-bytes_in new blocks q w2 below_q ∙ get_or-bytes_in_put pool blocks p v q w once below below_q inside)
 
 -- leased blocks are whole where all are
 pub whole_leased : (pool : PoolState) (blocks : List ℕ) → All (λ bytes. length bytes ≡ 128) pool.blocks → AreOf pool blocks → AreWhole pool blocks
 whole_leased pool blocks whole leased = record { whole = λ k d h. whole (get_or blocks k d) [] (leased_below pool blocks leased k d h) }
 
 -- a byte put into a block of a lease, at a place in it, is put into the lease's bytes
-pub laid_put_leased : (old new : PoolState) (blocks : List ℕ) (p v b : ℕ) → All (λ bytes. length bytes ≡ 128) old.blocks → AreOf old blocks → p < 128 * length blocks → b ≡ get_or blocks (p / 128) 0 →
-    new.blocks ≡ set old.blocks b (set (contents old b) (p % 128) v) → laid new blocks ≡ set (laid old blocks) p v
-laid_put_leased old new blocks p v b whole leased below is put =
+pub bytes_in_put_leased : (old new : PoolState) (blocks : List ℕ) (p v b : ℕ) → All (λ bytes. length bytes ≡ 128) old.blocks → AreOf old blocks
+    → p < 128 * length blocks → b ≡ get_or blocks (p / 128) 0 →
+    new.blocks ≡ set old.blocks b (set (contents old b) (p % 128) v) → bytes_in new blocks ≡ set (bytes_in old blocks) p v
+bytes_in_put_leased old new blocks p v b whole leased below is put =
     let inside : p / 128 < length blocks = omega arith in
-    let step : new.blocks ≡ (put_at old (get_or blocks (p / 128) 0) (p % 128) v).blocks = put ∙ ap (λ n. set old.blocks n (set (contents old n) (p % 128) v)) is in
-    ap (λ bs. laid (record { blocks = bs; free = old.free }) blocks) step
-    ∙ laid_put old blocks p v (whole_leased old blocks whole leased) (once_leased old blocks leased) below (leased_below old blocks leased (p / 128) 0 inside)
+    let step : new.blocks ≡ (put_at old (get_or blocks (p / 128) 0) (p % 128) v).blocks =
+    put ∙ ap (λ n. set old.blocks n (set (contents old n) (p % 128) v)) is in
+    ap (λ bs. bytes_in (record { blocks = bs; free = old.free }) blocks) step
+    ∙ bytes_in_put old blocks p v (whole_leased old blocks whole leased) (once_leased old blocks leased) below
+    (leased_below old blocks leased (p / 128) 0 inside)
 
 -- blocks whose contents are the same lay the same bytes
-pub laid_same : (old new : PoolState) (blocks : List ℕ) → All (λ b. contents new b ≡ contents old b) blocks → laid new blocks ≡ laid old blocks
-laid_same old new [] same = refl
-laid_same old new (b ∷ bs) same =
-    ap₂ (λ (xs ys : List ℕ). xs ++ ys) (All-head (λ c. contents new c ≡ contents old c) b bs same) (laid_same old new bs (All-tail (λ c. contents new c ≡ contents old c) b bs same))
+pub bytes_in_same : (old new : PoolState) (blocks : List ℕ) → All (λ b. contents new b ≡ contents old b) blocks → bytes_in new blocks ≡ bytes_in old blocks
+bytes_in_same old new [] same = refl
+bytes_in_same old new (b ∷ bs) same =
+    ap₂ (λ (xs ys : List ℕ). xs ++ ys) (All-head (λ c. contents new c ≡ contents old c) b bs same)
+    (bytes_in_same old new bs (All-tail (λ c. contents new c ≡ contents old c) b bs same))
 
 -- what is written to blocks leaves the bytes of others
-pub laid_apart : (old new : PoolState) (blocks others : List ℕ) → WritesTo blocks old new → AreApart blocks others → laid new others ≡ laid old others
-laid_apart old new blocks others writes apart =
-    laid_same old new others (λ k d h. writes.others (get_or others k d) (λ own. apart (get_or others k d) own (Contains-get_or others k d h)))
+pub bytes_in_apart : (old new : PoolState) (blocks others : List ℕ) → WritesTo blocks old new → AreApart blocks others
+    → bytes_in new others ≡ bytes_in old others
+bytes_in_apart old new blocks others writes apart =
+    bytes_in_same old new others (λ k d h. writes.others (get_or others k d) (λ own. apart (get_or others k d) own (Contains-get_or others k d h)))
 
 -- no write leaves all as it is
 pub writes_none : (own : List ℕ) (pool : PoolState) → WritesTo own pool pool
