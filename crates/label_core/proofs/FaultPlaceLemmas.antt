@@ -79,7 +79,7 @@ local_number why other least most (d ∷ bytes) small = elim (cases_Bool (is_asc
 compartment_is : kind.Compartment ≢ kind.Range
 compartment_is e = absurd cc
 
-abbrev after_compartment : List ℕ → ℕ → Reader (List ℕ)
+abbrev pub after_compartment : List ℕ → ℕ → Reader (List ℕ)
 after_compartment set n rest = cond (begins 43 rest) (compartments_left (with_number n set) (drop 1 rest)) (Ok (with_number n set, rest))
 
 after_compartment_end : (set : List ℕ) (n : ℕ) (other : List ℕ) → IsEnd other → after_compartment set n other ≡ Ok (with_number n set, other)
@@ -88,7 +88,8 @@ after_compartment_end set n other end = rw (end_begins 43 other end (λ _. refl)
 after_compartment_starts : (set : List ℕ) (n : ℕ) → Starts NoDigit IsEnd (after_compartment set n)
 after_compartment_starts set n = record { text = []; value = with_number n set; ends = end_digit; again = after_compartment_end set n }
 
-local_after_compartment : (set : List ℕ) (n : ℕ) (rest : List ℕ) → ((b : ℕ) (t : List ℕ) → rest ≡ b ∷ t → Local IsEnd (compartments_left (with_number n set)) t)
+pub local_after_compartment : (set : List ℕ) (n : ℕ) (rest : List ℕ)
+    → ((b : ℕ) (t : List ℕ) → rest ≡ b ∷ t → Local IsEnd (compartments_left (with_number n set)) t)
     → Local IsEnd (after_compartment set n) rest
 local_after_compartment set n [] list = local_none_end IsEnd (after_compartment set n) (with_number n set) refl (after_compartment_end set n)
 local_after_compartment set n (b ∷ rest) list = elim (cases_eq b 43) [
@@ -106,13 +107,13 @@ local_list_step set bytes others =
     let shorter = (number_takes kind.Compartment 1 256 bytes n (omega arith) (omega arith) e).shorter in
     others n.0 t (omega (arith, shorter, ap length is)))))
 
-local_list : (k : ℕ) (set bytes : List ℕ) → length bytes ≤ k → Local IsEnd (compartments_left set) bytes
+pub local_list : (k : ℕ) (set bytes : List ℕ) → length bytes ≤ k → Local IsEnd (compartments_left set) bytes
 local_list zero set bytes fits = local_list_step set bytes (λ n t shorter. absurd (omega arith))
 local_list (suc k) set bytes fits = local_list_step set bytes (λ n t shorter. local_list k (with_number n set) t (omega arith))
 
 -- what follows a grade
 
-abbrev after_grade : ℕ → Reader Element
+abbrev pub after_grade : ℕ → Reader Element
 after_grade grade rest = cond (begins 58 rest) (compartments_at (drop 1 rest) >>= λ set. Ok (Grade grade set.0, set.1)) (Ok (Grade grade [], rest))
 
 after_grade_end : (grade : ℕ) (other : List ℕ) → IsEnd other → after_grade grade other ≡ Ok (Grade grade [], other)
@@ -131,7 +132,7 @@ local_list_of_grade grade bytes =
     (λ set. record { text = []; value = Grade grade set; ends = λ other end. end; again = λ other end. refl }) (λ other end. end) bytes
     (local_list (length bytes) [] bytes (omega arith)) (λ set e. local_none IsEnd (Grade grade set.0) set.1)
 
-local_after_grade : (grade : ℕ) (rest : List ℕ) → Local IsEnd (after_grade grade) rest
+pub local_after_grade : (grade : ℕ) (rest : List ℕ) → Local IsEnd (after_grade grade) rest
 unfolding list_of_grade
 local_after_grade grade [] = local_none_end IsEnd (after_grade grade) (Grade grade []) refl (after_grade_end grade)
 local_after_grade grade (b ∷ rest) = elim (cases_eq b 58) [
@@ -244,7 +245,7 @@ Nothing other = other ≡ []
 nothing_ends : (other : List ℕ) → Nothing other → IsEnd other
 nothing_ends other none = rw none tt
 
-abbrev finish : {A : Type 0} → A → Reader A
+abbrev pub finish : {A : Type 0} → A → Reader A
 finish a rest = cond (eqb (length rest) 0) (Ok (a, rest)) (Err (stop_at kind.Form rest))
 
 finish_end : {A : Type 0} (a : A) (other : List ℕ) → Nothing other → finish a other ≡ Ok (a, other)
@@ -253,7 +254,7 @@ finish_end a other none = rw none refl
 finish_starts : {A : Type 0} (a : A) → Starts IsEnd Nothing (finish a)
 finish_starts a = record { text = []; value = a; ends = nothing_ends; again = finish_end a }
 
-local_finish : {A : Type 0} (a : A) (rest : List ℕ) → Local Nothing (finish a) rest
+pub local_finish : {A : Type 0} (a : A) (rest : List ℕ) → Local Nothing (finish a) rest
 local_finish a [] = local_none_end Nothing (finish a) a refl (finish_end a)
 local_finish a (b ∷ rest) =
     local_fault_byte Nothing (finish a) kind.Form b rest form_is (λ t. rw (ne_eqb (suc (length t)) 0 (omega arith)) refl)
@@ -261,16 +262,16 @@ local_finish a (b ∷ rest) =
 
 -- a range
 
-abbrev range_end : Element × Element → Reader (Element × Element)
+abbrev pub range_end : Element × Element → Reader (Element × Element)
 range_end ends = literal ends (codes ")")
 
-range_high : Element → Reader (Element × Element)
+unfoldable pub range_high : Element → Reader (Element × Element)
 range_high low = then_read body_at (λ high. range_end (low, high))
 
-range_dash : Element → Reader (Element × Element)
+unfoldable pub range_dash : Element → Reader (Element × Element)
 range_dash low = then_read (literal (tt {0}) (codes "-")) (λ _. range_high low)
 
-range_low : Reader (Element × Element)
+unfoldable pub range_low : Reader (Element × Element)
 range_low = then_read body_at range_dash
 
 range_end_starts : (ends : Element × Element) → Starts IsEnd Nothing (range_end ends)
@@ -286,7 +287,7 @@ range_high_starts : (low : Element) → Starts Any Nothing (range_high low)
 unfolding range_high body_at after_word
 range_high_starts low = record { text = codes "low)"; value = (low, Low); ends = λ other none. tt; again = λ other none. refl }
 
-local_range_dash : (low : Element) (bytes : List ℕ) → Local Nothing (range_dash low) bytes
+pub local_range_dash : (low : Element) (bytes : List ℕ) → Local Nothing (range_dash low) bytes
 unfolding range_dash
 local_range_dash low bytes =
     local_then Any Nothing (literal (tt {0}) (codes "-")) (λ _. range_high low) (λ _. range_high_starts low) (λ other none. tt) bytes
@@ -301,13 +302,13 @@ range_dash_starts low = record {
   again = λ other none. refl;
 }
 
-local_range_low : (bytes : List ℕ) → Local Nothing range_low bytes
+pub local_range_low : (bytes : List ℕ) → Local Nothing range_low bytes
 unfolding range_low
 local_range_low bytes =
     local_then IsEnd Nothing body_at range_dash range_dash_starts nothing_ends bytes (local_body bytes) (λ x given. local_range_dash x.0 x.1)
 
 -- the readers of a range in the words of its definition
-range_is : (active : Element) (t : List ℕ) → range_at active (40 ∷ t) ≡ range_low t
+pub range_is : (active : Element) (t : List ℕ) → range_at active (40 ∷ t) ≡ range_low t
 unfolding range_at range_low range_dash range_high
 range_is active t = alike (body_at t)
     (λ low. after_literal (codes "-") low.1 >>= λ rest. body_at rest >>= λ high. after_literal (codes ")") high.1 >>= λ end. Ok ((low.0, high.0), end))
@@ -329,17 +330,17 @@ local_range active (b ∷ bytes) = elim (cases_eq b 40) [
 
 -- whole texts
 
-pub element_to_end : Reader Element
+unfoldable pub element_to_end : Reader Element
 element_to_end = then_read element_at finish
 
 pub local_element_to_end : (text : List ℕ) → Local Nothing element_to_end text
 unfolding element_to_end
 local_element_to_end text = local_then IsEnd Nothing element_at finish finish_starts nothing_ends text (local_element text) (λ x given. local_finish x.0 x.1)
 
-parts_after : Element → Reader Parts
+unfoldable pub parts_after : Element → Reader Parts
 parts_after active = then_read (range_at active) (λ ends. finish (record { active = active; low = ends.0; high = ends.1 }))
 
-local_parts_after : (active : Element) (bytes : List ℕ) → Local Nothing (parts_after active) bytes
+pub local_parts_after : (active : Element) (bytes : List ℕ) → Local Nothing (parts_after active) bytes
 unfolding parts_after
 local_parts_after active bytes =
     local_then Nothing Nothing (range_at active) (λ ends. finish (record { active = active; low = ends.0; high = ends.1 }))
@@ -360,7 +361,7 @@ parts_after_starts active = record {
   again = λ other none. rw (range_none active other none) (finish_end (record { active = active; low = active; high = active }) other none);
 }
 
-pub parts_to_end : Reader Parts
+unfoldable pub parts_to_end : Reader Parts
 parts_to_end = then_read element_at parts_after
 
 pub local_parts_to_end : (text : List ℕ) → Local Nothing parts_to_end text

@@ -70,7 +70,7 @@ element_not_fault text e s spells given =
     let fault : whole_element text ≡ Err s = whole_element_is text ∙ rw given refl in
     err_not_ok s e (sym fault ∙ whole_element_again text e spells)
 
-bind_err : {A : Type 0} (r : Result (A × List ℕ) Stop) (s : Stop) → (r >>= λ x. Ok x.0) ≡ Err s → r ≡ Err s
+pub bind_err : {A : Type 0} (r : Result (A × List ℕ) Stop) (s : Stop) → (r >>= λ x. Ok x.0) ≡ Err s → r ≡ Err s
 bind_err (Ok x) s e = absurd cc
 bind_err (Err t) s e = ap (λ t. Err t) cc
 
@@ -78,7 +78,7 @@ pub element_failed : (text : List ℕ) (s : Stop) → whole_element text ≡ Err
 element_failed text s given =
     fault_is Nothing element_to_end text s (local_element_to_end text) (bind_err (element_to_end text) s (sym (whole_element_is text) ∙ given))
 
-with_place_err : {A : Type 0} (text : List ℕ) (r : Result A Stop) (f : LabelFault) → with_place text r ≡ Err f
+pub with_place_err : {A : Type 0} (text : List ℕ) (r : Result A Stop) (f : LabelFault) → with_place text r ≡ Err f
     → (s : Stop) × (r ≡ Err s) × (f ≡ record { kind = s.kind; at = length text - s.left })
 with_place_err text (Ok x) f e = absurd cc
 with_place_err text (Err s) f e = (s, refl, cc)

@@ -15,3 +15,6 @@ pub mod TextLemmas
 pub mod LocalFaultLemmas
 pub mod FaultPlaceLemmas
 pub mod FirstFaultLemmas
+pub mod PastNumberLemmas
+pub mod NumberFaultLemmas
+pub mod FaultKindLemmas

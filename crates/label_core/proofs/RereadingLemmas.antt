@@ -123,7 +123,7 @@ listed_again grade first more rest fits are end =
     rw (number_again kind.Grade 0 65535 grade (58 ∷ list) (omega arith) (omega arith) (omega arith) fits refl, set) refl
 
 -- a grade begins with no letter
-grade_from : (grade : ℕ) (rest : List ℕ) → grade ≤ 65535 → body_at (decimal grade ++ rest) ≡ grade_at (decimal grade ++ rest)
+pub grade_from : (grade : ℕ) (rest : List ℕ) → grade ≤ 65535 → body_at (decimal grade ++ rest) ≡ grade_at (decimal grade ++ rest)
 unfolding body_at
 grade_from grade rest fits =
     rw (

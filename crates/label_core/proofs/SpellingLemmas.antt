@@ -129,7 +129,7 @@ listed_takes bytes n x t colon e =
     let list = list_takes (length (drop 1 n.1)) [] (drop 1 n.1) b.0 (omega arith) (sym (compartments_at_left (drop 1 n.1)) ∙ b.1) in
     rw (← ok_is (Grade n.0 b.0.0, b.0.1) x b.2) (takes_listed bytes (drop 1 n.1) n b.0 t (begins_cons 58 n.1 colon) list)
 
-grade_takes : (bytes : List ℕ) (x : Element × List ℕ) → grade_at bytes ≡ Ok x → TakesElement bytes x
+pub grade_takes : (bytes : List ℕ) (x : Element × List ℕ) → grade_at bytes ≡ Ok x → TakesElement bytes x
 unfolding grade_at
 grade_takes bytes x e =
     let a =
@@ -165,7 +165,7 @@ body_takes bytes x e = elim (choice_cases (begins 108 bytes) _ _ (ok_of x) e) [
 ]
 
 -- an element's text, and what follows it
-element_takes : (text : List ℕ) (x : Element × List ℕ) → element_at text ≡ Ok x → (rest : List ℕ) × (text ≡ codes "mls/" ++ rest) × TakesElement rest x
+pub element_takes : (text : List ℕ) (x : Element × List ℕ) → element_at text ≡ Ok x → (rest : List ℕ) × (text ≡ codes "mls/" ++ rest) × TakesElement rest x
 unfolding element_at
 element_takes text x e =
     let a = bind_ok (after_literal (codes "mls/") text) body_at x e in
