@@ -60,4 +60,4 @@ acl_of list = list_or_fault list (fault_of list)
 -- a list without a fault, in the printed order
 pub record IsAcl (list : List Entry) : Type 0 where
   pub valid : fault_of list ≡ None
-  pub ordered : IsStrictlySortedBy tag_cmp (map (λ e. e.tag) list)
+  pub order : IsStrictlySortedBy tag_cmp (map (λ e. e.tag) list)

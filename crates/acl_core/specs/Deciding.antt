@@ -20,16 +20,16 @@ matches_group cred group (Group g) = in_group cred g
 matches_group cred group _ = false
 
 -- the permissions, each limited by the mask if there is one
-abbrev pub limited_by : List Perm → List Perm → List Perm
-limited_by [] perms = perms
-limited_by (mask ∷ _) perms = map (λ p. common p mask) perms
+abbrev pub limit_by : List Perm → List Perm → List Perm
+limit_by [] perms = perms
+limit_by (mask ∷ _) perms = map (λ p. common p mask) perms
 
 -- the permissions that decide about a caller, by the first case that applies
 abbrev pub deciding : List Entry → Cred → ℕ → ℕ → List Perm
 deciding list cred owner group =
     if cred.uid == owner then perms_at UserObj list
-    else (if has_tag (User cred.uid) list then limited_by (perms_at Mask list) (perms_at (User cred.uid) list)
-    else (if list_any (λ e. matches_group cred group e.tag) list then limited_by (perms_at Mask list) (perms_where (matches_group cred group) list)
+    else (if has_tag (User cred.uid) list then limit_by (perms_at Mask list) (perms_at (User cred.uid) list)
+    else (if list_any (λ e. matches_group cred group e.tag) list then limit_by (perms_at Mask list) (perms_where (matches_group cred group) list)
     else perms_at Other list))
 
 -- one of the deciding permissions has all bits of want

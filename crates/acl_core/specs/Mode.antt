@@ -54,10 +54,10 @@ unfoldable pub with_mode : List Entry → ℕ → List Entry
 with_mode list mode = map (λ e. record { tag = e.tag; perm = unwrap_or (bits_for (class_tag list) mode e.tag) e.perm }) list
 
 -- the permission limited by bits, if there are any
-abbrev pub limited_to : Perm → Option Perm → Perm
-limited_to perm (Some bits) = common perm bits
-limited_to perm None = perm
+abbrev pub limit_to : Perm → Option Perm → Perm
+limit_to perm (Some bits) = common perm bits
+limit_to perm None = perm
 
 -- the list limited by the bits of a mode
-unfoldable pub inherited : List Entry → ℕ → List Entry
-inherited list mode = map (λ e. record { tag = e.tag; perm = limited_to e.perm (bits_for (class_tag list) mode e.tag) }) list
+unfoldable pub inherited_list : List Entry → ℕ → List Entry
+inherited_list list mode = map (λ e. record { tag = e.tag; perm = limit_to e.perm (bits_for (class_tag list) mode e.tag) }) list

@@ -7,33 +7,37 @@ use Rattle.acl_core.specs.declared.entry.Tag.{Tag}
 use Rattle.acl_core.specs.declared.entry.Tag.TheVariants.{UserObj, User, GroupObj, Group, Mask, Other}
 use Rattle.acl_core.specs.declared.entry.Entry.{Entry}
 use Rattle.acl_core.specs.declared.entry.TheConstants.{MOST_ENTRIES}
-use Rattle.acl_core.specs.declared.read.ListFault.{ListFault}
-use Rattle.acl_core.specs.declared.read.Stop.{Stop}
+use Rattle.acl_core.specs.declared.fault.ListFault.{ListFault}
+use Rattle.acl_core.specs.declared.fault.Stop.{Stop}
 use Rattle.acl_core.specs.declared.text.TheConstants.{DASH, COLON, COMMA, ZERO, LETTER_R, LETTER_W, LETTER_X}
 
+-- a step, and the next one where it did not stop
 infixl 10 ◌>>=◌
--- what f reads after the first, which reads something
-abbrev pub ◌>>=◌ : {A B : Type 0} → Result A ℕ → (A → Result B ℕ) → Result B ℕ
+abbrev pub ◌>>=◌ : {A B : Type 0} → Result A Stop → (A → Result B Stop) → Result B Stop
 (Ok x) >>= f = f x
-(Err left) >>= f = Err left
+(Err stop) >>= f = Err stop
+
+-- what a function returned, seen by view, is what reading gives
+abbrev pub Gives : {X Y : Type 0} → (X → Y) → Result X Stop → Result Y Stop → Type 0
+Gives view (Ok x) read = read ≡ Ok (view x)
+Gives view (Err stop) read = read ≡ Err stop
+
+-- a fault at the first of these bytes, or at the end where there is none
+abbrev pub stop_at : List ℕ → Stop
+stop_at bytes = record { left = length bytes }
 
 -- the first that reads, and the fault of the second where neither does
-abbrev pub or_else : {A : Type 0} → Result A ℕ → Result A ℕ → Result A ℕ
+abbrev pub or_else : {A : Type 0} → Result A Stop → Result A Stop → Result A Stop
 or_else (Ok x) second = Ok x
-or_else (Err left) second = second
-
--- what a reader returned, seen by view, is what reading gives
-abbrev pub Gives : {X Y : Type 0} → (X → Y) → Result X Stop → Result Y ℕ → Type 0
-Gives view (Ok x) read = read ≡ Ok (view x)
-Gives view (Err stop) read = read ≡ Err stop.left
+or_else (Err stop) second = second
 
 -- one byte
-abbrev pub byte_at : ℕ → List ℕ → Result (List ℕ) ℕ
-byte_at b [] = Err 0
-byte_at b (c ∷ rest) = if c == b then Ok rest else Err (length (c ∷ rest))
+abbrev pub byte_at : ℕ → List ℕ → Result (List ℕ) Stop
+byte_at b [] = Err (stop_at [])
+byte_at b (c ∷ rest) = if c == b then Ok rest else Err (stop_at (c ∷ rest))
 
 -- the bytes of a word
-abbrev pub word_at : List ℕ → List ℕ → Result (List ℕ) ℕ
+abbrev pub word_at : List ℕ → List ℕ → Result (List ℕ) Stop
 word_at [] bytes = Ok bytes
 word_at (b ∷ word) bytes = byte_at b bytes >>= word_at word
 
@@ -42,28 +46,28 @@ abbrev pub with_digit : ℕ → ℕ → ℕ
 with_digit n digit = n * 10 + (digit - ZERO)
 
 -- the digits that go on with a number, up to 32 bits
-unfoldable pub digits_at : ℕ → List ℕ → Result (ℕ × List ℕ) ℕ
+unfoldable pub digits_at : ℕ → List ℕ → Result (ℕ × List ℕ) Stop
 digits_at n [] = Ok (n, [])
 digits_at n (b ∷ rest) =
-    if is_ascii_digit b then (if nat_lt (with_digit n b) (2 ^ 32) then digits_at (with_digit n b) rest else Err (length (b ∷ rest)))
+    if is_ascii_digit b then (if nat_lt (with_digit n b) (2 ^ 32) then digits_at (with_digit n b) rest else Err (stop_at (b ∷ rest)))
     else Ok (n, b ∷ rest)
 
 -- a number in decimal; no digit follows a leading zero
-unfoldable pub number_at : List ℕ → Result (ℕ × List ℕ) ℕ
-number_at [] = Err 0
+unfoldable pub number_at : List ℕ → Result (ℕ × List ℕ) Stop
+number_at [] = Err (stop_at [])
 number_at (b ∷ rest) =
     if b == ZERO then Ok (0, rest)
-    else (if is_ascii_digit b then digits_at (b - ZERO) rest else Err (length (b ∷ rest)))
+    else (if is_ascii_digit b then digits_at (b - ZERO) rest else Err (stop_at (b ∷ rest)))
 
 -- a number and a colon
-unfoldable pub numbered_at : List ℕ → Result (Option ℕ × List ℕ) ℕ
+unfoldable pub numbered_at : List ℕ → Result (Option ℕ × List ℕ) Stop
 numbered_at bytes = do
   n ← number_at bytes
   rest ← byte_at COLON n.1
   Ok (Some n.0, rest)
 
 -- a colon alone, or a number and a colon
-unfoldable pub qualifier_at : List ℕ → Result (Option ℕ × List ℕ) ℕ
+unfoldable pub qualifier_at : List ℕ → Result (Option ℕ × List ℕ) Stop
 qualifier_at bytes = or_else (byte_at COLON bytes >>= λ rest. Ok (None, rest)) (numbered_at bytes)
 
 -- the bytes begin with the first byte of the word
@@ -81,7 +85,7 @@ group_tag None = GroupObj
 group_tag (Some n) = Group n
 
 -- a tag; its first byte tells its word
-unfoldable pub tag_at : List ℕ → Result (Tag × List ℕ) ℕ
+unfoldable pub tag_at : List ℕ → Result (Tag × List ℕ) Stop
 tag_at bytes =
     if begins_as (codes "user:") bytes then (do
       rest ← word_at (codes "user:") bytes
@@ -97,15 +101,15 @@ tag_at bytes =
     else (if begins_as (codes "other::") bytes then (do
       rest ← word_at (codes "other::") bytes
       Ok (Other, rest))
-    else Err (length bytes))))
+    else Err (stop_at bytes))))
 
 -- a letter or a dash
-abbrev pub letter_at : ℕ → List ℕ → Result (Bool × List ℕ) ℕ
-letter_at letter [] = Err 0
-letter_at letter (b ∷ rest) = if b == letter then Ok (true, rest) else (if b == DASH then Ok (false, rest) else Err (length (b ∷ rest)))
+abbrev pub letter_at : ℕ → List ℕ → Result (Bool × List ℕ) Stop
+letter_at letter [] = Err (stop_at [])
+letter_at letter (b ∷ rest) = if b == letter then Ok (true, rest) else (if b == DASH then Ok (false, rest) else Err (stop_at (b ∷ rest)))
 
 -- the letters r, w and x, or a dash for each
-unfoldable pub perm_at : List ℕ → Result (Perm × List ℕ) ℕ
+unfoldable pub perm_at : List ℕ → Result (Perm × List ℕ) Stop
 perm_at bytes = do
   r ← letter_at LETTER_R bytes
   w ← letter_at LETTER_W r.1
@@ -113,45 +117,45 @@ perm_at bytes = do
   Ok (record { read = r.0; write = w.0; exec = x.0 }, x.1)
 
 -- a tag and a permission
-unfoldable pub entry_at : List ℕ → Result (Entry × List ℕ) ℕ
+unfoldable pub entry_at : List ℕ → Result (Entry × List ℕ) Stop
 entry_at bytes = do
   tag ← tag_at bytes
   perm ← perm_at tag.1
   Ok (record { tag = tag.0; perm = perm.0 }, perm.1)
 
 -- a comma and an entry
-abbrev pub next_at : List ℕ → Result (Entry × List ℕ) ℕ
+abbrev pub next_at : List ℕ → Result (Entry × List ℕ) Stop
 next_at bytes = byte_at COMMA bytes >>= entry_at
 
 -- at most so many more entries, each after a comma, to the end of the text
-unfoldable pub more_at : ℕ → List ℕ → Result (List Entry) ℕ
+unfoldable pub more_at : ℕ → List ℕ → Result (List Entry) Stop
 more_at room [] = Ok []
-more_at zero (b ∷ rest) = Err (length (b ∷ rest))
+more_at zero (b ∷ rest) = Err (stop_at (b ∷ rest))
 more_at (suc room) (b ∷ rest) = do
   next ← next_at (b ∷ rest)
   others ← more_at room next.1
   Ok (next.0 ∷ others)
 
 -- the entries to the end of the text, of which there is at least one
-unfoldable pub entries_at : List ℕ → Result (List Entry) ℕ
+unfoldable pub entries_at : List ℕ → Result (List Entry) Stop
 entries_at bytes = do
   first ← entry_at bytes
   others ← more_at (MOST_ENTRIES - 1) first.1
   Ok (first.0 ∷ others)
 
 -- the whole text: a dash alone, or entries
-unfoldable pub list_at : List ℕ → Result (List Entry) ℕ
+unfoldable pub list_at : List ℕ → Result (List Entry) Stop
 list_at bytes =
     if begins_as (codes "-") bytes then (do
       rest ← byte_at DASH bytes
-      if length rest == 0 then Ok [] else Err (length rest))
+      if length rest == 0 then Ok [] else Err (stop_at rest))
     else entries_at bytes
 
--- the place of a fault in a text
-abbrev pub placed : ℕ → Result (List Entry) ℕ → Result (List Entry) ListFault
-placed len (Ok list) = Ok list
-placed len (Err left) = Err (record { at = len - left })
+-- the fault's place, counted from the text's start
+abbrev pub with_place : List ℕ → Result (List Entry) Stop → Result (List Entry) ListFault
+with_place text (Ok list) = Ok list
+with_place text (Err stop) = Err (record { at = length text - stop.left })
 
 -- the entries of a text, or its fault
 unfoldable pub read_of : List ℕ → Result (List Entry) ListFault
-read_of text = placed (length text) (list_at text)
+read_of text = with_place text (list_at text)

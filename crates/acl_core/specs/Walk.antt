@@ -15,8 +15,8 @@ either None covers = Some covers
 either (Some found) covers = Some (found || covers)
 
 -- what is found with one more entry
-abbrev pub noted : Cred → ℕ → Perm → Findings → Entry → Findings
-noted cred group want found e = record {
+abbrev pub with_entry : Cred → ℕ → Perm → Findings → Entry → Findings
+with_entry cred group want found e = record {
   owner = if same_tag e.tag UserObj then has_all e.perm want else found.owner;
   user = if same_tag e.tag (User cred.uid) then Some (has_all e.perm want) else found.user;
   groups = if matches_group cred group e.tag then either found.groups (has_all e.perm want) else found.groups;
@@ -35,5 +35,5 @@ answer_of None (Some groups) found = groups && found.mask
 answer_of None None found = found.other
 
 -- the answer of the owner's entry to the owner
-abbrev pub decided : Bool → Findings → Bool
-decided is_owner found = if is_owner then found.owner else answer_of found.user found.groups found
+abbrev pub answer : Bool → Findings → Bool
+answer is_owner found = if is_owner then found.owner else answer_of found.user found.groups found

@@ -3,7 +3,7 @@ ghost use Rattle.std.specs.Prelude.{◌≡◌, ◌≤◌, IfOk};
 ghost use Rattle.std.specs.List.Sorted.{IsPermutation};
 ghost use Rattle.acl_core.specs.Acl.{acl_of, IsAcl};
 ghost use Rattle.acl_core.specs.Deciding.{grants, has_exec};
-ghost use Rattle.acl_core.specs.Mode.{minimal_list, mode_of, with_mode, inherited};
+ghost use Rattle.acl_core.specs.Mode.{minimal_list, mode_of, with_mode, inherited_list};
 
 use crate::mode::{self, MODE_MOST};
 use crate::valid::{fault_of, in_order};
@@ -31,7 +31,10 @@ impl Model for Acl {
 }
 
 impl Acl {
-    /// The list of the entries, which may come in any order, or their first fault.
+    /// The list of the entries, which may come in any order, or their first fault (acl_valid(3)):
+    /// `TooMany` where there are over 64, else `Twice` where a tag stands twice, else `Missing` where
+    /// the owner, the file's group or others have no entry, else `NoMask` where a user or a group is
+    /// named and there is no mask.
     #[tactic(auto, unfolding(crate::specs::Acl::acl_of))]
     pub fn new(entries: &[Entry]) -> Result<Acl, AclFault>
         ensures exact { result ≡ acl_of entries.now }
@@ -62,10 +65,11 @@ impl Acl {
         ensures { result ≡ grants self.now cred.now owner group want }
     {
         let found = Findings::of(self.entries(), cred, group, want);
-        found.decided(cred.uid == owner)
+        found.answer(cred.uid == owner)
     }
 
-    /// The list of a mode: an entry for the owner, one for the group and one for others.
+    /// The list of a mode, at most octal 777 (chmod(2)): an entry for the owner, one for the group and
+    /// one for others.
     pub fn minimal(mode: u16) -> Acl
         requires { mode ≤ MODE_MOST }
         ensures { result ≡ minimal_list mode }
@@ -75,7 +79,8 @@ impl Acl {
         }
     }
 
-    /// The mode of the list, with the mask as the bits of the group where there is one.
+    /// The mode of the list, at most octal 777, with the mask as the bits of the group where there is
+    /// one (acl(3)).
     pub fn mode_of(&self) -> u16
         ensures value { result ≡ mode_of self.now }
         ensures most { result ≤ MODE_MOST }
@@ -83,8 +88,9 @@ impl Acl {
         mode::mode_of(self.entries())
     }
 
-    /// The list with the bits of a mode: the owner's, others', and the group's in the mask, or in
-    /// the group's entry where there is no mask.
+    /// The list with the bits of a mode, at most octal 777 (chmod(2)): the owner's, others', and the
+    /// group's in the mask, or in the group's entry where there is no mask. The other entries stay as
+    /// they are.
     pub fn with_mode(&self, mode: u16) -> Acl
         requires { mode ≤ MODE_MOST }
         ensures { result ≡ with_mode self.now mode }
@@ -94,14 +100,15 @@ impl Acl {
         }
     }
 
-    /// The list of a new file below a directory with this default list: the same entries are
-    /// limited by the bits of the mode that the file is made with.
+    /// The list of a new file below a directory with this default list: the owner's entry, others',
+    /// and the mask, or the group's entry where there is no mask, are limited by the bits of the mode
+    /// that the file is made with, at most octal 777 (acl(3)). The other entries stay as they are.
     pub fn inherit(&self, mode: u16) -> Acl
         requires { mode ≤ MODE_MOST }
-        ensures { result ≡ inherited self.now mode }
+        ensures { result ≡ inherited_list self.now mode }
     {
         Acl {
-            entries: mode::inherited(self.entries.as_slice(), mode),
+            entries: mode::inherited_list(self.entries.as_slice(), mode),
         }
     }
 

@@ -4,7 +4,7 @@ ghost use Rattle.acl_core.specs.Deciding.{in_group};
 
 use arrayvec::ArrayVec;
 
-/// How many supplementary groups a credential has at most.
+/// How many supplementary groups a credential has at most (getgroups(2)).
 pub const MOST_GROUPS: usize = 16;
 
 /// Who asks: a user, a group, and supplementary groups. The groups are kept as they are given, in

@@ -1,13 +1,13 @@
 //! Entries and the nine bits of a file's mode.
 ghost use Rattle.std.specs.Prelude.{◌≡◌, ◌≤◌, ◌<◌, length, option_map};
 ghost use Rattle.acl_core.specs.Entry.{perms_at};
-ghost use Rattle.acl_core.specs.Mode.{owner_bits, group_bits, other_bits, minimal_list, class_tag, digit_of_one, mode_of, bits_for, with_mode, inherited};
+ghost use Rattle.acl_core.specs.Mode.{owner_bits, group_bits, other_bits, minimal_list, class_tag, digit_of_one, mode_of, bits_for, with_mode, inherited_list};
 
 use crate::valid::has_tag;
 use crate::{Entry, MOST_ENTRIES, Perm, Tag};
 use arrayvec::ArrayVec;
 
-/// The greatest mode: all bits for the owner, the group and others.
+/// The greatest mode (chmod(2)): all bits for the owner, the group and others.
 pub const MODE_MOST: u16 = 0o777;
 
 fn owner_bits(mode: u16) -> Perm
@@ -124,17 +124,17 @@ pub(crate) fn with_mode(entries: &[Entry], mode: u16) -> ArrayVec<Entry, MOST_EN
 }
 
 /// The entries, limited by the bits of a mode at the tags that it speaks of.
-#[tactic(auto, unfolding(crate::specs::Mode::inherited))]
-pub(crate) fn inherited(entries: &[Entry], mode: u16) -> ArrayVec<Entry, MOST_ENTRIES>
+#[tactic(auto, unfolding(crate::specs::Mode::inherited_list))]
+pub(crate) fn inherited_list(entries: &[Entry], mode: u16) -> ArrayVec<Entry, MOST_ENTRIES>
     requires most { length entries.now ≤ MOST_ENTRIES }
     requires mode_most { mode ≤ MODE_MOST }
-    ensures { result.items ≡ inherited entries.now mode }
+    ensures { result.items ≡ inherited_list entries.now mode }
 {
     let class = class_tag(entries);
     let mut list = ArrayVec::new();
     for entry in entries {
         let perm = match bits_for(class, mode, entry.tag) {
-            Some(bits) => entry.perm.limited(bits),
+            Some(bits) => entry.perm.common(bits),
             None => entry.perm,
         };
         list.push(Entry {

@@ -46,7 +46,7 @@ impl Perm {
     }
 
     /// The bits that both have.
-    pub(crate) fn limited(self, mask: Perm) -> Self
+    pub(crate) fn common(self, mask: Perm) -> Self
         ensures { result ≡ common self mask }
     {
         Perm {

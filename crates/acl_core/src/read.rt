@@ -5,30 +5,17 @@ ghost use Rattle.acl_core.specs.Text.{list_text, HasText, IsFaultAt};
 ghost use Rattle.acl_core.specs.declared.text.TheConstants.{ZERO};
 ghost use Rattle.acl_core.specs.Reading.{Gives, byte_at, word_at, with_digit, digits_at, number_at, numbered_at, qualifier_at, tag_at, letter_at, perm_at, entry_at, next_at, entries_at, list_at, read_of};
 
+use crate::fault::{ListFault, Stop, stop_at};
 use crate::text::{COLON, COMMA, DASH, LETTER_R, LETTER_W, LETTER_X, ZERO};
 use crate::{Entry, MOST_ENTRIES, Perm, Tag};
 use arrayvec::ArrayVec;
-
-/// Where a text that is no list has its fault: the place of the first byte that no list has there,
-/// or the length of a text that ends early. More than 64 entries are a fault at the comma before
-/// the next.
-#[derive(Clone, Copy, Debug, PartialEq, Eq)]
-pub struct ListFault {
-    pub at: usize,
-}
-
-/// Where reading stops: how many bytes are left from the first one on that no list has there.
-#[derive(Clone, Copy)]
-pub(crate) struct Stop {
-    pub(crate) left: usize,
-}
 
 fn byte_at(byte: u8, bytes: &[u8]) -> Result<&[u8], Stop>
     ensures { Gives (λ rest. rest.now) result (byte_at byte bytes.now) }
 {
     match bytes {
         [first, rest @ ..] if *first == byte => Ok(rest),
-        _ => Err(Stop { left: bytes.len() }),
+        _ => Err(stop_at(bytes)),
     }
 }
 
@@ -60,7 +47,7 @@ fn digits_at(mut n: u32, bytes: &[u8]) -> Result<(u32, &[u8]), Stop>
     while let [digit @ b'0'..=b'9', after @ ..] = rest {
         match with_digit(n, *digit) {
             Some(more) => n = more,
-            None => return Err(Stop { left: rest.len() }),
+            None => return Err(stop_at(rest)),
         }
         rest = after;
     }
@@ -75,7 +62,7 @@ fn number_at(bytes: &[u8]) -> Result<(u32, &[u8]), Stop>
     match bytes {
         [ZERO, rest @ ..] => Ok((0, rest)),
         [digit @ b'1'..=b'9', rest @ ..] => digits_at(u32::from(*digit - ZERO), rest),
-        _ => Err(Stop { left: bytes.len() }),
+        _ => Err(stop_at(bytes)),
     }
 }
 
@@ -116,7 +103,7 @@ fn tag_at(bytes: &[u8]) -> Result<(Tag, &[u8]), Stop>
         }
         [b'm', ..] => Ok((Tag::Mask, word_at(b"mask::", bytes)?)),
         [b'o', ..] => Ok((Tag::Other, word_at(b"other::", bytes)?)),
-        _ => Err(Stop { left: bytes.len() }),
+        _ => Err(stop_at(bytes)),
     }
 }
 
@@ -127,7 +114,7 @@ fn letter_at(letter: u8, bytes: &[u8]) -> Result<(bool, &[u8]), Stop>
     match bytes {
         [first, rest @ ..] if *first == letter => Ok((true, rest)),
         [DASH, rest @ ..] => Ok((false, rest)),
-        _ => Err(Stop { left: bytes.len() }),
+        _ => Err(stop_at(bytes)),
     }
 }
 
@@ -167,7 +154,7 @@ fn entries_at(bytes: &[u8]) -> Result<ArrayVec<Entry, MOST_ENTRIES>, Stop>
     entries.push(first);
     while !rest.is_empty() {
         if entries.is_full() {
-            return Err(Stop { left: rest.len() });
+            return Err(stop_at(rest));
         }
         let (next, after) = next_at(rest)?;
         entries.push(next);
@@ -183,19 +170,19 @@ fn list_at(bytes: &[u8]) -> Result<ArrayVec<Entry, MOST_ENTRIES>, Stop>
 {
     match bytes {
         [DASH] => Ok(ArrayVec::new()),
-        [DASH, rest @ ..] => Err(Stop { left: rest.len() }),
+        [DASH, rest @ ..] => Err(stop_at(rest)),
         _ => entries_at(bytes),
     }
 }
 
-/// The entries of a text, in their order, whether they make a list or not. The text is `-`, or at
-/// most 64 entries joined by commas: `user::P`, `user:UID:P`, `group::P`, `group:GID:P`, `mask::P`
-/// or `other::P`, with three letters such as `r-x` for P and a number of 32 bits, in decimal
-/// without leading zeros, for UID and GID.
+/// The entries of a text, in their order, whether they make a list or not (acl_from_text(3)). The
+/// text is `-`, or at most 64 entries joined by commas: `user::P`, `user:UID:P`, `group::P`,
+/// `group:GID:P`, `mask::P` or `other::P`, with three letters such as `r-x` for P and a number of 32
+/// bits, in decimal without leading zeros, for UID and GID.
 #[tactic(auto, unfolding(crate::specs::Reading::read_of))]
 pub fn read_list(text: &[u8]) -> Result<ArrayVec<Entry, MOST_ENTRIES>, ListFault>
     // What is read is spelled so.
-    ensures found { IfOk result (λ v. HasText v.items × (text.now ≡ list_text v.items)) }
+    ensures spelling { IfOk result (λ v. HasText v.items × (text.now ≡ list_text v.items)) }
     // What is spelled so is read.
     ensures only { (list : List Entry) → HasText list → text.now ≡ list_text list
         → IsOkAnd result (λ v. v.items ≡ list) }

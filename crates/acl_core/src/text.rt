@@ -1,6 +1,6 @@
 //! The bytes of a list's text.
 
-/// How many bytes a text has at most.
+/// How many bytes the text has at most that a list is printed to.
 pub const TEXT_ROOM: usize = 4096;
 
 /// How many bytes are free before a list is printed. A list of 64 entries takes at most 1,343 of

@@ -1,7 +1,7 @@
 //! The one walk over a list's entries that a check makes.
 ghost use Rattle.std.specs.Prelude.{◌≡◌};
 ghost use Rattle.std.specs.List.{fold};
-ghost use Rattle.acl_core.specs.Walk.{either, noted, nothing_found, decided};
+ghost use Rattle.acl_core.specs.Walk.{either, with_entry, nothing_found, answer};
 
 use crate::{Cred, Entry, Perm, Tag};
 
@@ -19,7 +19,7 @@ pub(crate) struct Findings {
 impl Findings {
     /// What the entries tell about a caller and the file's group.
     pub(crate) fn of(entries: &[Entry], cred: &Cred, group: u32, want: Perm) -> Self
-        ensures { result ≡ fold (noted cred.now group want) nothing_found entries.now }
+        ensures { result ≡ fold (with_entry cred.now group want) nothing_found entries.now }
     {
         let mut found = Findings {
             owner: false,
@@ -29,14 +29,14 @@ impl Findings {
             other: false,
         };
         for entry in entries {
-            found = found.noted(cred, group, want, entry);
+            found = found.with_entry(cred, group, want, entry);
         }
         found
     }
 
     /// The same with one more entry.
-    fn noted(self, cred: &Cred, group: u32, want: Perm, entry: &Entry) -> Self
-        ensures { result ≡ noted cred.now group want self entry.now }
+    fn with_entry(self, cred: &Cred, group: u32, want: Perm, entry: &Entry) -> Self
+        ensures { result ≡ with_entry cred.now group want self entry.now }
     {
         let covers = entry.perm.covers(want);
         match entry.tag {
@@ -71,8 +71,8 @@ impl Findings {
     }
 
     /// The answer, by the first class that the caller is in.
-    pub(crate) fn decided(self, is_owner: bool) -> bool
-        ensures { result ≡ decided is_owner self }
+    pub(crate) fn answer(self, is_owner: bool) -> bool
+        ensures { result ≡ answer is_owner self }
     {
         if is_owner {
             return self.owner;

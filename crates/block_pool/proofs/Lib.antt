@@ -1,4 +1,4 @@
-pub mod Times
-pub mod Leases
-pub mod Blocks
-pub mod Circle
+pub mod TimesLemmas
+pub mod LeaseLemmas
+pub mod BlockLemmas
+pub mod CircleLemmas

@@ -1,7 +1,7 @@
 -- A list of bytes in blocks of a pool.
 use Rattle.std.specs.Prelude.{ℕ, ◌+◌, ◌-◌, ◌*◌, ◌%◌, List, length, map, slice_index}
 use Rattle.std.specs.List.{range_with_len}
-use Rattle.block_pool.specs.Pool.{PoolState, laid}
+use Rattle.block_pool.specs.Pool.{PoolState, bytes_in}
 use Rattle.block_pool.specs.declared.TheConstants.{BLOCK_BYTES}
 
 -- what contracts see of a chain: its blocks, at which of their bytes its list begins, and how long that is
@@ -20,4 +20,4 @@ room_of chain = places chain - chain.count
 
 -- the list of bytes that a chain holds: from its first on, round its blocks in a circle
 unfoldable pub holds : PoolState → ChainState → List ℕ
-holds pool chain = map (λ i. slice_index (laid pool chain.blocks) ((chain.first + i) % places chain)) (range_with_len 0 chain.count)
+holds pool chain = map (λ i. slice_index (bytes_in pool chain.blocks) ((chain.first + i) % places chain)) (range_with_len 0 chain.count)

@@ -1,3 +1,3 @@
 pub mod Pool
 pub mod Chain
-pub mod Kept
+pub mod WholePool

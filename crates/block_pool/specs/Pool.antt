@@ -12,8 +12,8 @@ abbrev pub contents : PoolState → ℕ → List ℕ
 contents pool block = slice_index_or pool.blocks block []
 
 -- what is in blocks of a pool, one after another
-abbrev pub laid : PoolState → List ℕ → List ℕ
-laid pool blocks = flat_map (contents pool) blocks
+abbrev pub bytes_in : PoolState → List ℕ → List ℕ
+bytes_in pool blocks = flat_map (contents pool) blocks
 
 -- how often a number stands in a list
 abbrev pub times : ℕ → List ℕ → ℕ

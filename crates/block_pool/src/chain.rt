@@ -39,7 +39,7 @@ fn bytes_of(lease: &Lease) -> u16
 
 impl Chain {
     /// The empty list over the blocks of a lease, with room for 128 bytes in each.
-    #[tactic(auto, using(crate::proofs::Circle::held))]
+    #[tactic(auto, using(crate::proofs::CircleLemmas::circle))]
     pub fn over(lease: Lease) -> Chain
         ensures blocks { result.blocks ≡ lease }
         ensures count { result.count ≡ 0 }
@@ -65,7 +65,7 @@ impl Chain {
     }
 
     /// How many bytes it holds.
-    #[tactic(auto, using(crate::proofs::Circle::held))]
+    #[tactic(auto, using(crate::proofs::CircleLemmas::circle))]
     pub fn len(&self) -> u16
         ensures count { result ≡ self.now.count }
         ensures len { (pool : PoolState) → result ≡ length (holds pool self.now) }
@@ -74,7 +74,7 @@ impl Chain {
     }
 
     /// How many bytes more it takes: 128 for each block, less its length.
-    #[tactic(auto, using(crate::proofs::Circle::held))]
+    #[tactic(auto, using(crate::proofs::CircleLemmas::circle))]
     pub fn room(&self) -> u16
         ensures room { result ≡ room_of self.now }
         ensures limit { (pool : PoolState) → length (holds pool self.now) + result ≡ BLOCK_BYTES * length self.now.blocks }
@@ -85,7 +85,7 @@ impl Chain {
     /// Adds a byte at the end. There is room, and the blocks are of the pool.
     pub fn push_back(&mut self, pool: &mut Pool, byte: u8)
         requires room { 0 < room_of self.old }
-        requires leased { AreOf pool.old self.old.blocks }
+        requires of_pool { AreOf pool.old self.old.blocks }
         ensures bytes { holds pool.new self.new ≡ holds pool.old self.old ++ byte ∷ [] }
         ensures count { self.new.count ≡ self.old.count + 1 }
         ensures blocks { self.new.blocks ≡ self.old.blocks }
@@ -134,7 +134,7 @@ impl Chain {
     }
 
     /// Empties the list.
-    #[tactic(auto, using(crate::proofs::Circle::held))]
+    #[tactic(auto, using(crate::proofs::CircleLemmas::circle))]
     pub fn clear(&mut self)
         ensures blocks { self.new.blocks ≡ self.old.blocks }
         ensures count { self.new.count ≡ 0 }

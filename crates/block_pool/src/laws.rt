@@ -1,6 +1,7 @@
 //! What holds of every pool, its leases and its chains, as contracts of functions that do nothing.
 ghost use Rattle.std.specs.Prelude.{◌≡◌, ℕ, ◌+◌, ◌<◌, ◌↔◌, List, [], ◌++◌, length, All, nat_eq};
 ghost use Rattle.std.specs.List.{Contains, IsDistinct};
+ghost use Rattle.block_pool.specs.declared.TheConstants.{BLOCK_BYTES, LEASE_BLOCKS};
 ghost use Rattle.block_pool.specs.Pool.{PoolState, contents, times, AreOf, AreAllOf, AreApart, Lends, WritesTo};
 ghost use Rattle.block_pool.specs.Chain.{ChainState, holds};
 
@@ -27,15 +28,15 @@ pub fn reserved_in_turn()
 /// The free blocks and the leased ones are all blocks, each once. Lending keeps this, and so does
 /// giving back, which is lending seen backwards.
 pub fn all_blocks()
-    ensures lent { (lease leased : List ℕ) (old new : PoolState) → Lends lease old new → (AreAllOf old leased ↔ AreAllOf new (lease ++ leased)) }
-    ensures leased { (pool : PoolState) (leased : List ℕ) → AreAllOf pool leased → AreOf pool leased }
+    ensures lends { (lease leased : List ℕ) (old new : PoolState) → Lends lease old new → (AreAllOf old leased ↔ AreAllOf new (lease ++ leased)) }
+    ensures of_pool { (pool : PoolState) (leased : List ℕ) → AreAllOf pool leased → AreOf pool leased }
     ensures count { (pool : PoolState) (leased : List ℕ) → AreAllOf pool leased → length pool.free + length leased ≡ length pool.blocks }
     ensures order { (pool : PoolState) (leased other : List ℕ) → ((block : ℕ) → times block leased ≡ times block other) → AreAllOf pool leased → AreAllOf pool other }
 {}
 
 /// What is written to blocks leaves what is leased.
 pub fn writes_leave_leases()
-    ensures leased { (own leased : List ℕ) (old new : PoolState) → WritesTo own old new → AreOf old leased → AreOf new leased }
+    ensures of_pool { (own leased : List ℕ) (old new : PoolState) → WritesTo own old new → AreOf old leased → AreOf new leased }
     ensures all { (own leased : List ℕ) (old new : PoolState) → WritesTo own old new → AreAllOf old leased → AreAllOf new leased }
 {}
 
@@ -56,4 +57,10 @@ pub fn own_blocks()
 /// What is written to blocks leaves what every chain over other blocks holds.
 pub fn other_chains()
     ensures { (own : List ℕ) (old new : PoolState) (chain : ChainState) → WritesTo own old new → AreApart own chain.blocks → holds new chain ≡ holds old chain }
+{}
+
+/// The figures of the limits: the bytes of a block, and the blocks of a lease.
+pub fn limits()
+    ensures block { BLOCK_BYTES ≡ 128 }
+    ensures lease { LEASE_BLOCKS ≡ 40 }
 {}

@@ -1,7 +1,7 @@
 //! The blocks, and which of them are free.
 ghost use Rattle.std.specs.Prelude.{◌≡◌, ℕ, ◌*◌, ◌<◌, ◌≤◌, ◌↔◌, List, [], ◌++◌, length, IfOk, OnErr, IsErr, slice_index, slice_set, vec_capacity, All};
 ghost use Rattle.std.specs.List.{range_with_len};
-ghost use Rattle.block_pool.specs.Pool.{laid, AreOf, AreAllOf, Lends, WritesTo};
+ghost use Rattle.block_pool.specs.Pool.{bytes_in, AreOf, AreAllOf, Lends, WritesTo};
 
 use crate::lease::Lease;
 use crate::{BLOCK_BYTES, LEASE_BLOCKS};
@@ -25,17 +25,17 @@ pub struct Pool {
 impl Model for Pool {
     ghost use Rattle.std.specs.Prelude.{vec_capacity};
     ghost use Rattle.block_pool.specs.Pool.{PoolState};
-    ghost use Rattle.block_pool.specs.Kept.{IsKept};
+    ghost use Rattle.block_pool.specs.WholePool.{IsWholePool};
 
     ghost Value = { PoolState };
 
     ghost view = { λ p. record { blocks = p.blocks.items; free = p.free.items } };
 
-    ghost invariant = { λ p. IsKept (record { blocks = p.blocks.items; free = p.free.items }) (vec_capacity p.free) };
+    ghost invariant = { λ p. IsWholePool (record { blocks = p.blocks.items; free = p.free.items }) (vec_capacity p.free) };
 }
 
 /// The numbers below `n`.
-#[tactic(auto, using(crate::proofs::Times::range_more))]
+#[tactic(auto, using(crate::proofs::TimesLemmas::range_more))]
 fn numbers_below(alloc: Global, n: u16) -> Result<Vec<u16>, NoMemory>
     ensures numbers { IfOk result (λ numbers. numbers.items ≡ range_with_len 0 n) }
     ensures room { IfOk result (λ numbers. n ≤ vec_capacity numbers) }
@@ -48,7 +48,7 @@ fn numbers_below(alloc: Global, n: u16) -> Result<Vec<u16>, NoMemory>
 }
 
 /// So many blocks.
-#[tactic(auto, using(crate::proofs::Blocks::whole_more))]
+#[tactic(auto, using(crate::proofs::BlockLemmas::whole_more))]
 fn whole_blocks(alloc: Global, n: u16) -> Result<Vec<[u8; BLOCK_BYTES]>, NoMemory>
     ensures whole { IfOk result (λ blocks. All (λ bytes. length bytes ≡ BLOCK_BYTES) blocks.items) }
     ensures size { IfOk result (λ blocks. length blocks.items ≡ n) }
@@ -61,7 +61,8 @@ fn whole_blocks(alloc: Global, n: u16) -> Result<Vec<[u8; BLOCK_BYTES]>, NoMemor
 }
 
 impl Pool {
-    /// A pool of so many blocks, all of them free.
+    /// A pool of so many blocks, at most 65,535, all of them free. All memory is taken here, and none
+    /// later; `NoMemory`, where it runs out, is the only error.
     pub fn new(alloc: Global, blocks: u16) -> Result<Pool, NoMemory>
         ensures size { IfOk result (λ pool. length pool.blocks ≡ blocks) }
         ensures all { IfOk result (λ pool. AreAllOf pool []) }
@@ -86,8 +87,8 @@ impl Pool {
         requires most { n ≤ LEASE_BLOCKS }
         ensures full { IsErr result ↔ (length self.old.free < n) }
         ensures count { IfOk result (λ lease. length lease ≡ n) }
-        ensures lent { IfOk result (λ lease. Lends lease self.old self.new) }
-        ensures leased { IfOk result (λ lease. AreOf self.new lease) }
+        ensures lends { IfOk result (λ lease. Lends lease self.old self.new) }
+        ensures of_pool { IfOk result (λ lease. AreOf self.new lease) }
         ensures others { IfOk result (λ lease. (leased : List ℕ) → AreOf self.old leased → AreOf self.new (lease ++ leased)) }
         ensures err { OnErr result (self.new ≡ self.old) }
     {
@@ -101,10 +102,10 @@ impl Pool {
         Ok(lease)
     }
 
-    /// Makes the blocks of a lease free again. The lease is of this pool.
+    /// Makes the blocks of a lease free again. The lease is of this pool. It never wants memory.
     pub fn give_back(&mut self, lease: Lease)
         requires { AreOf self.old lease }
-        ensures returned { Lends lease self.new self.old }
+        ensures lends { Lends lease self.new self.old }
         ensures others { (leased : List ℕ) → AreOf self.old (lease ++ leased) → AreOf self.new leased }
     {
         let _ = self.free.extend_from_slice(lease.numbers());
@@ -113,9 +114,9 @@ impl Pool {
 
     /// The byte in a place of the blocks of a lease, which run one after another.
     pub(crate) fn byte(&self, lease: &Lease, place: u16) -> u8
-        requires leased { AreOf self.now lease.now }
+        requires of_pool { AreOf self.now lease.now }
         requires place { place < BLOCK_BYTES * length lease.now }
-        ensures { result ≡ slice_index (laid self.now lease.now) place }
+        ensures { result ≡ slice_index (bytes_in self.now lease.now) place }
     {
         let place = usize::from(place);
         let number = lease.numbers()[place / BLOCK_BYTES];
@@ -125,11 +126,11 @@ impl Pool {
 
     /// Puts a byte into a place of the blocks of a lease, which run one after another.
     pub(crate) fn put(&mut self, lease: &Lease, place: u16, byte: u8)
-        requires leased { AreOf self.old lease.now }
+        requires of_pool { AreOf self.old lease.now }
         requires place { place < BLOCK_BYTES * length lease.now }
-        ensures put { laid self.new lease.now ≡ slice_set (laid self.old lease.now) place byte }
+        ensures put { bytes_in self.new lease.now ≡ slice_set (bytes_in self.old lease.now) place byte }
         ensures writes { WritesTo lease.now self.old self.new }
-        ensures bytes { length (laid self.old lease.now) ≡ BLOCK_BYTES * length lease.now }
+        ensures bytes { length (bytes_in self.old lease.now) ≡ BLOCK_BYTES * length lease.now }
     {
         let place = usize::from(place);
         let number = lease.numbers()[place / BLOCK_BYTES];

@@ -5,7 +5,7 @@ use Rattle.label_core.specs.declared.element.Element.{Element}
 use Rattle.label_core.specs.declared.element.Element.TheVariants.{Low, Equal, High, Grade}
 use Rattle.label_core.specs.CompSet.{is_subset}
 use Rattle.label_core.specs.Element.{IsElement, dom}
-use Rattle.label_core.proofs.Sets.{is_subset_refl, is_subset_trans, is_subset_both}
+use Rattle.label_core.proofs.SetLemmas.{is_subset_refl, is_subset_trans, is_subset_both}
 
 pub dom_refl : (a : Element) → dom a a ≡ true
 unfolding dom

@@ -7,7 +7,7 @@ use Rattle.label_core.specs.declared.element.Element.TheVariants.{Low, Equal, Hi
 use Rattle.label_core.specs.declared.fault.LabelKind.{LabelKind}
 use Rattle.label_core.specs.declared.fault.LabelKind.TheVariants as kind
 use Rattle.label_core.specs.declared.fault.LabelFault.{LabelFault}
-use Rattle.label_core.specs.declared.reading.Stop.{Stop}
+use Rattle.label_core.specs.declared.fault.Stop.{Stop}
 use Rattle.label_core.specs.CompSet.{with_number}
 use Rattle.label_core.specs.Subject.{Parts, is_subject}
 
@@ -15,12 +15,12 @@ use Rattle.label_core.specs.Subject.{Parts, is_subject}
 infixl 10 ◌>>=◌
 abbrev pub ◌>>=◌ : {A B : Type 0} → Result A Stop → (A → Result B Stop) → Result B Stop
 (Ok x) >>= f = f x
-(Err s) >>= f = Err s
+(Err stop) >>= f = Err stop
 
 -- what a function returned, seen by view, is what reading gives
 abbrev pub Gives : {X Y : Type 0} → (X → Y) → Result X Stop → Result Y Stop → Type 0
 Gives view (Ok x) read = read ≡ Ok (view x)
-Gives view (Err s) read = read ≡ Err s
+Gives view (Err stop) read = read ≡ Err stop
 
 -- a fault at the first of these bytes, or at the end where there is none
 abbrev pub stop_at : LabelKind → List ℕ → Stop
@@ -141,14 +141,14 @@ whole_subject text = do
   subject_or_fault parts
 
 -- the fault's place, counted from the text's start
-abbrev pub placed : {A : Type 0} → List ℕ → Result A Stop → Result A LabelFault
-placed text (Ok x) = Ok x
-placed text (Err s) = Err (record { kind = s.kind; at = length text - s.left })
+abbrev pub with_place : {A : Type 0} → List ℕ → Result A Stop → Result A LabelFault
+with_place text (Ok x) = Ok x
+with_place text (Err stop) = Err (record { kind = stop.kind; at = length text - stop.left })
 
 -- the element that a text spells, or its first fault
 unfoldable pub element_of : List ℕ → Result Element LabelFault
-element_of text = placed text (whole_element text)
+element_of text = with_place text (whole_element text)
 
 -- the subject that a text spells, or its first fault
 unfoldable pub subject_of : List ℕ → Result Parts LabelFault
-subject_of text = placed text (whole_subject text)
+subject_of text = with_place text (whole_subject text)

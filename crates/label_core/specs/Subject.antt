@@ -18,7 +18,7 @@ pub record IsSubject (s : Parts) : Type 0 where
   pub active : IsElement s.active
   pub low : IsElement s.low
   pub high : IsElement s.high
-  pub ordered : IsTrue (is_subject s)
+  pub in_order : IsTrue (is_subject s)
 
 -- whether the element is within the subject's range
 abbrev pub inside : Element → Parts → Bool

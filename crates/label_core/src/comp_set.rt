@@ -62,7 +62,7 @@ impl Model for CompSet {
     ghost view = { λ s. numbers_in s.words };
 }
 
-#[tactic(auto, using(crate::proofs::Marks::numbers))]
+#[tactic(auto, using(crate::proofs::MarkLemmas::numbers))]
 impl CompSet {
     /// The set without a number.
     pub fn empty() -> Self
@@ -118,7 +118,7 @@ impl PartialEq for CompSet {
 
     ghost laws = { partial_equiv_from_equiv (lists_equiv nat_eq_equiv) };
 
-    #[tactic(auto, using(crate::proofs::Sets::sets))]
+    #[tactic(auto, using(crate::proofs::SetLemmas::sets))]
     fn eq(&self, other: &Self) -> bool {
         self.is_subset(other) && other.is_subset(self)
     }

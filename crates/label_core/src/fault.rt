@@ -1,5 +1,6 @@
 //! Why a text is no label.
 ghost use Rattle.std.specs.Prelude.{◌≡◌};
+ghost use Rattle.label_core.specs.Reading.{stop_at};
 
 /// What is wrong with the text of a label.
 #[derive(Clone, Copy, Debug, PartialEq, Eq)]
@@ -18,7 +19,8 @@ pub enum LabelKind {
 #[derive(Clone, Copy, Debug, PartialEq, Eq)]
 pub struct LabelFault {
     pub kind: LabelKind,
-    /// The first byte that no label has after those before it, or the length where there is none.
+    /// The first byte that no label has after those before it, counted from 0, or the length in bytes
+    /// of a text that ends too early.
     pub at: usize,
 }
 
@@ -37,5 +39,22 @@ impl LabelFault {
         ensures { result ≡ self.now }
     {
         *self
+    }
+}
+
+/// Where reading stops: how many bytes are left from the fault on, and the fault's kind.
+#[derive(Clone, Copy)]
+pub(crate) struct Stop {
+    pub(crate) kind: LabelKind,
+    pub(crate) left: usize,
+}
+
+/// A fault at the first of these bytes, or at the end where there is none.
+pub(crate) fn stop_at(kind: LabelKind, bytes: &[u8]) -> Stop
+    ensures { result ≡ stop_at kind bytes.now }
+{
+    Stop {
+        kind,
+        left: bytes.len(),
     }
 }

@@ -11,7 +11,7 @@ use crate::element::{Element, POLICY};
 use crate::subject::Subject;
 use arrayvec::ArrayVec;
 
-/// How many bytes a text holds.
+/// How many bytes the text has at most that a label is printed to.
 pub const TEXT_ROOM: usize = 4096;
 
 /// How many bytes the text of an element has at most.
@@ -36,17 +36,14 @@ fn push_all(out: &mut Text, bytes: &[u8])
     let _ = out.try_extend_from_slice(bytes);
 }
 
-/// The digits of a number, at most five.
-#[tactic(auto, using(crate::proofs::Decimals::decimals))]
-fn push_number(out: &mut Text, n: u16)
-    requires { array_vec_len out.old + length (decimal n) ≤ TEXT_ROOM }
-    ensures text { out.new.items ≡ out.old.items ++ decimal n }
+/// A number in decimal, at most five digits.
+#[tactic(auto, using(crate::proofs::DecimalLemmas::decimals))]
+fn push_number(out: &mut Text, number: u16)
+    requires { array_vec_len out.old + length (decimal number) ≤ TEXT_ROOM }
+    ensures text { out.new.items ≡ out.old.items ++ decimal number }
     ensures room { array_vec_len out.new ≤ array_vec_len out.old + 5 }
 {
-    if n >= 10 {
-        push_number(out, n / 10);
-    }
-    out.push(b'0' + (n % 10) as u8);
+    push_all(out, itoa::Buffer::new().format(number).as_bytes());
 }
 
 /// The compartments of a set, with the mark before each.
@@ -67,7 +64,7 @@ fn push_set(out: &mut Text, set: &CompSet)
 }
 
 /// An element without its policy's name.
-#[tactic(auto, using(crate::proofs::Decimals::decimals))]
+#[tactic(auto, using(crate::proofs::DecimalLemmas::decimals))]
 fn push_body(out: &mut Text, e: &Element)
     requires { array_vec_len out.old + BODY_ROOM ≤ TEXT_ROOM }
     ensures text { out.new.items ≡ out.old.items ++ body_text e.now }
@@ -86,7 +83,8 @@ fn push_body(out: &mut Text, e: &Element)
 }
 
 /// Appends the text of an element, as mac_mls(4) writes it: `mls/` and `low`, `equal`, `high` or a
-/// grade, behind which a colon and its compartments may stand, in rising order and joined by `+`.
+/// grade, behind which a colon and its compartments may stand, in rising order and joined by `+`. It
+/// has at most 925 bytes, and so many of the 4,096 are to be free.
 #[tactic(auto, unfolding(crate::specs::Text::element_text))]
 pub fn print_element(e: &Element, out: &mut ArrayVec<u8, TEXT_ROOM>)
     requires { array_vec_len out.old + ELEMENT_ROOM ≤ TEXT_ROOM }
@@ -98,8 +96,9 @@ pub fn print_element(e: &Element, out: &mut ArrayVec<u8, TEXT_ROOM>)
     push_body(out, e);
 }
 
-/// Appends the text of a subject: the active element, and in brackets the low and the high end with
-/// `-` between them. The brackets are left out where both ends are the active element.
+/// Appends the text of a subject, as mac_mls(4) writes it: the active element, and in brackets the
+/// low and the high end with `-` between them. The brackets are left out where both ends are the
+/// active element. It has at most 2,800 bytes, and so many of the 4,096 are to be free.
 #[tactic(auto, unfolding(crate::specs::Text::subject_text))]
 pub fn print_subject(s: &Subject, out: &mut ArrayVec<u8, TEXT_ROOM>)
     requires { array_vec_len out.old + LABEL_ROOM ≤ TEXT_ROOM }

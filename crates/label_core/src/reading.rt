@@ -2,29 +2,12 @@
 ghost use Rattle.std.specs.Prelude.{◌≡◌, ◌<◌, ◌≤◌, length, drop, if◌then◌else◌, option_copied, IfOk};
 ghost use Rattle.label_core.specs.Element.{IsElement};
 ghost use Rattle.label_core.specs.Subject.{IsSubject};
-ghost use Rattle.label_core.specs.Reading.{Gives, stop_at, begins, after_literal, after_word, digits_at, number_at, compartments_at, grade_at, body_at, element_at, range_at, subject_or_fault, whole_element, whole_subject, element_of, subject_of};
+ghost use Rattle.label_core.specs.Reading.{Gives, begins, after_literal, after_word, digits_at, number_at, compartments_at, grade_at, body_at, element_at, range_at, subject_or_fault, whole_element, whole_subject, element_of, subject_of};
 
 use crate::comp_set::{COMPARTMENTS, CompSet};
 use crate::element::{Element, POLICY};
-use crate::fault::{LabelFault, LabelKind};
+use crate::fault::{LabelFault, LabelKind, Stop, stop_at};
 use crate::subject::Subject;
-
-/// Why reading stops, and how many bytes are left from the fault on.
-#[derive(Clone, Copy)]
-struct Stop {
-    kind: LabelKind,
-    left: usize,
-}
-
-/// A fault at the first of these bytes, or at the end where there is none.
-fn stop_at(kind: LabelKind, bytes: &[u8]) -> Stop
-    ensures { result ≡ stop_at kind bytes.now }
-{
-    Stop {
-        kind,
-        left: bytes.len(),
-    }
-}
 
 /// What follows the byte, where the bytes begin with it.
 fn after_byte(byte: u8, bytes: &[u8]) -> Option<&[u8]>

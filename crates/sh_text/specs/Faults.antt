@@ -22,7 +22,7 @@ pub record IsFirstFault (text : List ℕ) (place : ℕ) : Type 0 where
 
 -- what was returned is the line that the text spells, or the first fault of a text that spells none, but where memory ran
 -- out
-abbrev pub ReadsSpelled : List ℕ → Result Line ShFault → Type 0
-ReadsSpelled text (Ok line) = SpellsLine text line
-ReadsSpelled text (Err (fault.Text at)) = IsFirstFault text at × ((line : Line) → SpellsLine text line → ⊥)
-ReadsSpelled text (Err fault.NoMemory) = ⊤
+abbrev pub ReadsByGrammar : List ℕ → Result Line ShFault → Type 0
+ReadsByGrammar text (Ok line) = SpellsLine text line
+ReadsByGrammar text (Err (fault.Text at)) = IsFirstFault text at × ((line : Line) → SpellsLine text line → ⊥)
+ReadsByGrammar text (Err fault.NoMemory) = ⊤

@@ -11,8 +11,8 @@ use Rattle.sh_text.specs.Bytes.{is_blank, ends_word}
 -- the ways to write a part of a word: a byte as it is, bytes between single quotes, and a byte behind a backslash
 pub data Part : Type 0 where
   bare : ℕ → Part
-  quoted : List ℕ → Part
-  escaped : ℕ → Part
+  in_quotes : List ℕ → Part
+  behind_backslash : ℕ → Part
 
 -- a byte that is no single quote
 abbrev pub IsNoQuote : ℕ → Type 0
@@ -21,20 +21,20 @@ IsNoQuote b = (b == byte "'") ≡ false
 -- a bare byte is no mark, no blank and no quote, and no single quote stands between two
 abbrev pub IsPart : Part → Type 0
 IsPart (bare b) = (ends_word b ≡ false) × IsNoQuote b × ((b == byte "\\") ≡ false)
-IsPart (quoted bytes) = AllByRecursion IsNoQuote bytes
-IsPart (escaped b) = ⊤
+IsPart (in_quotes bytes) = AllByRecursion IsNoQuote bytes
+IsPart (behind_backslash b) = ⊤
 
 -- how a part is spelled
-abbrev pub spelled : Part → List ℕ
-spelled (bare b) = b ∷ []
-spelled (quoted bytes) = codes "'" ++ bytes ++ codes "'"
-spelled (escaped b) = codes "\\" ++ b ∷ []
+abbrev pub spelled_part : Part → List ℕ
+spelled_part (bare b) = b ∷ []
+spelled_part (in_quotes bytes) = codes "'" ++ bytes ++ codes "'"
+spelled_part (behind_backslash b) = codes "\\" ++ b ∷ []
 
 -- the bytes that it means
-abbrev pub meant : Part → List ℕ
-meant (bare b) = b ∷ []
-meant (quoted bytes) = bytes
-meant (escaped b) = b ∷ []
+abbrev pub meant_part : Part → List ℕ
+meant_part (bare b) = b ∷ []
+meant_part (in_quotes bytes) = bytes
+meant_part (behind_backslash b) = b ∷ []
 
 -- a word is written as parts, of which it has at least one
 abbrev pub IsWord : List Part → Type 0
@@ -49,8 +49,8 @@ EndsWord (b ∷ rest) = ends_word b ≡ true
 pub record SpellsWord (bytes word rest : List ℕ) : Type 0 where
   pub parts : List Part
   pub valid : IsWord parts
-  pub spelling : bytes ≡ flat_map spelled parts ++ rest
-  pub meaning : flat_map meant parts ≡ word
+  pub spelling : bytes ≡ flat_map spelled_part parts ++ rest
+  pub meaning : flat_map meant_part parts ≡ word
   pub ends : EndsWord rest
 
 -- bytes that are blanks or tabs, or none
@@ -74,14 +74,14 @@ IsItem (append_to blanks word) = AreBlanks blanks × IsWord word
 
 -- how an item is spelled
 abbrev pub spelled_item : Item → List ℕ
-spelled_item (own word) = flat_map spelled word
-spelled_item (input_from blanks word) = codes "<" ++ blanks ++ flat_map spelled word
-spelled_item (output_to blanks word) = codes ">" ++ blanks ++ flat_map spelled word
-spelled_item (append_to blanks word) = codes ">>" ++ blanks ++ flat_map spelled word
+spelled_item (own word) = flat_map spelled_part word
+spelled_item (input_from blanks word) = codes "<" ++ blanks ++ flat_map spelled_part word
+spelled_item (output_to blanks word) = codes ">" ++ blanks ++ flat_map spelled_part word
+spelled_item (append_to blanks word) = codes ">>" ++ blanks ++ flat_map spelled_part word
 
 -- the words of the command's own that it means, one or none
 abbrev pub words_of : Item → List (List ℕ)
-words_of (own word) = flat_map meant word ∷ []
+words_of (own word) = flat_map meant_part word ∷ []
 words_of (input_from blanks word) = []
 words_of (output_to blanks word) = []
 words_of (append_to blanks word) = []
@@ -89,7 +89,7 @@ words_of (append_to blanks word) = []
 -- the inputs that it means, one or none
 abbrev pub inputs_of : Item → List (List ℕ)
 inputs_of (own word) = []
-inputs_of (input_from blanks word) = flat_map meant word ∷ []
+inputs_of (input_from blanks word) = flat_map meant_part word ∷ []
 inputs_of (output_to blanks word) = []
 inputs_of (append_to blanks word) = []
 
@@ -97,17 +97,17 @@ inputs_of (append_to blanks word) = []
 abbrev pub outputs_of : Item → List (Bool × List ℕ)
 outputs_of (own word) = []
 outputs_of (input_from blanks word) = []
-outputs_of (output_to blanks word) = (false, flat_map meant word) ∷ []
-outputs_of (append_to blanks word) = (true, flat_map meant word) ∷ []
+outputs_of (output_to blanks word) = (false, flat_map meant_part word) ∷ []
+outputs_of (append_to blanks word) = (true, flat_map meant_part word) ∷ []
 
 -- an item with the blanks before it, or none
-pub record Spaced : Type 0 where
+pub record SpacedItem : Type 0 where
   pub blanks : List ℕ
   pub item : Item
 
 -- the blanks are blanks, and the item is an item
-abbrev pub IsSpaced : Spaced → Type 0
-IsSpaced spaced = AreBlanks spaced.blanks × IsItem spaced.item
+abbrev pub IsSpacedItem : SpacedItem → Type 0
+IsSpacedItem spaced = AreBlanks spaced.blanks × IsItem spaced.item
 
 -- whether the item begins with a word, and not with a mark
 abbrev pub is_own : Item → Bool
@@ -117,16 +117,16 @@ is_own (output_to blanks word) = false
 is_own (append_to blanks word) = false
 
 -- an item behind another: a word has a blank before it, since it would go on with the other's word else
-abbrev pub StandsApart : Spaced → Type 0
+abbrev pub StandsApart : SpacedItem → Type 0
 StandsApart spaced = IsTrue (is_own spaced.item) → 1 ≤ length spaced.blanks
 
-abbrev pub spelled_spaced : Spaced → List ℕ
-spelled_spaced spaced = spaced.blanks ++ spelled_item spaced.item
+abbrev pub spelled_spaced_item : SpacedItem → List ℕ
+spelled_spaced_item spaced = spaced.blanks ++ spelled_item spaced.item
 
 -- a way to write a command: a first item, more items, and the blanks behind them
 pub record CommandWriting : Type 0 where
-  pub first : Spaced
-  pub more : List Spaced
+  pub first : SpacedItem
+  pub more : List SpacedItem
   pub blanks : List ℕ
 
 abbrev pub items : CommandWriting → List Item
@@ -134,7 +134,7 @@ items command = map (λ spaced. spaced.item) (command.first ∷ command.more)
 
 -- a command has at least one word of its own, and at most one input and one output
 pub record IsCommand (command : CommandWriting) : Type 0 where
-  pub are_items : AllByRecursion IsSpaced (command.first ∷ command.more)
+  pub are_items : AllByRecursion IsSpacedItem (command.first ∷ command.more)
   pub apart : AllByRecursion StandsApart command.more
   pub are_blanks : AreBlanks command.blanks
   pub some_word : 1 ≤ length (flat_map words_of (items command))
@@ -142,7 +142,7 @@ pub record IsCommand (command : CommandWriting) : Type 0 where
   pub one_output : length (flat_map outputs_of (items command)) ≤ 1
 
 abbrev pub spelled_command : CommandWriting → List ℕ
-spelled_command command = flat_map spelled_spaced (command.first ∷ command.more) ++ command.blanks
+spelled_command command = flat_map spelled_spaced_item (command.first ∷ command.more) ++ command.blanks
 
 -- the first of the inputs
 abbrev pub input_in : List (List ℕ) → Option (List ℕ)
@@ -198,49 +198,49 @@ is_background semicolon = false
 is_background ampersand = true
 
 -- a job with the mark that ends it
-pub record Ended : Type 0 where
+pub record EndedJob : Type 0 where
   pub job : JobWriting
   pub end : End
 
-abbrev pub IsEnded : Ended → Type 0
-IsEnded ended = IsJob ended.job
+abbrev pub IsEndedJob : EndedJob → Type 0
+IsEndedJob ended_job = IsJob ended_job.job
 
-abbrev pub spelled_ended : Ended → List ℕ
-spelled_ended ended = spelled_job ended.job ++ spelled_end ended.end
+abbrev pub spelled_ended_job : EndedJob → List ℕ
+spelled_ended_job ended_job = spelled_job ended_job.job ++ spelled_end ended_job.end
 
-abbrev pub meant_ended : Ended → Job
-meant_ended ended = meant_job (is_background ended.end) ended.job
+abbrev pub meant_ended_job : EndedJob → Job
+meant_ended_job ended_job = meant_job (is_background ended_job.end) ended_job.job
 
 -- the ways to end a line, behind the jobs that have their mark: with blanks or nothing, and with a job without a mark
 pub data Last : Type 0 where
   nothing : List ℕ → Last
-  unended : JobWriting → Last
+  last_job : JobWriting → Last
 
 abbrev pub IsLast : Last → Type 0
 IsLast (nothing blanks) = AreBlanks blanks
-IsLast (unended job) = IsJob job
+IsLast (last_job job) = IsJob job
 
 abbrev pub spelled_last : Last → List ℕ
 spelled_last (nothing blanks) = blanks
-spelled_last (unended job) = spelled_job job
+spelled_last (last_job job) = spelled_job job
 
 abbrev pub meant_last : Last → List Job
 meant_last (nothing blanks) = []
-meant_last (unended job) = meant_job false job ∷ []
+meant_last (last_job job) = meant_job false job ∷ []
 
 -- a way to write a line
 pub record LineWriting : Type 0 where
-  pub ended : List Ended
+  pub ended_jobs : List EndedJob
   pub last : Last
 
 abbrev pub IsLine : LineWriting → Type 0
-IsLine line = AllByRecursion IsEnded line.ended × IsLast line.last
+IsLine line = AllByRecursion IsEndedJob line.ended_jobs × IsLast line.last
 
 abbrev pub spelled_line : LineWriting → List ℕ
-spelled_line line = flat_map spelled_ended line.ended ++ spelled_last line.last
+spelled_line line = flat_map spelled_ended_job line.ended_jobs ++ spelled_last line.last
 
 abbrev pub meant_line : LineWriting → Line
-meant_line line = record { jobs = map meant_ended line.ended ++ meant_last line.last }
+meant_line line = record { jobs = map meant_ended_job line.ended_jobs ++ meant_last line.last }
 
 -- the text spells the line
 pub record SpellsLine (text : List ℕ) (line : Line) : Type 0 where

@@ -3,7 +3,7 @@ ghost use Rattle.std.specs.Prelude.{◌≡◌, ◌<◌, ◌≤◌, length, IfOk,
 ghost use Rattle.sh_text.specs.Reading.{Gives, left_of, begins_item, output_at, item_at, items_at, command_at};
 
 use crate::bytes::{after_blanks, ends_word};
-use crate::fault::Stop;
+use crate::fault::{Halt, stop_at};
 use crate::tree::{Command, Words};
 use crate::words::{target, word};
 use std::alloc::Global;
@@ -28,9 +28,9 @@ fn output(
     mut command: Command,
     append: bool,
     bytes: &[u8],
-) -> Result<(Command, &[u8]), Stop>
+) -> Result<(Command, &[u8]), Halt>
     ensures gives { Gives (λ x. (x.0, x.1.now)) result (output_at command append bytes.now) }
-    ensures within { IfErr result (λ s. left_of s ≤ length bytes.now) }
+    ensures within { IfErr result (λ halt. left_of halt ≤ length bytes.now) }
     ensures shorter { IfOk result (λ x. length x.1.now < length bytes.now) }
 {
     let (word, rest) = target(alloc, bytes)?;
@@ -41,9 +41,9 @@ fn output(
 
 /// The command with one word or redirection more, and the bytes after that.
 #[tactic(auto, unfolding(crate::specs::Reading::item_at))]
-fn item(alloc: Global, mut command: Command, bytes: &[u8]) -> Result<(Command, &[u8]), Stop>
+fn item(alloc: Global, mut command: Command, bytes: &[u8]) -> Result<(Command, &[u8]), Halt>
     ensures gives { Gives (λ x. (x.0, x.1.now)) result (item_at command bytes.now) }
-    ensures within { IfErr result (λ s. left_of s ≤ length bytes.now) }
+    ensures within { IfErr result (λ halt. left_of halt ≤ length bytes.now) }
     ensures shorter { IfOk result (λ x. length x.1.now < length bytes.now) }
 {
     match bytes {
@@ -64,9 +64,9 @@ fn item(alloc: Global, mut command: Command, bytes: &[u8]) -> Result<(Command, &
 
 /// Words and redirections as far as they go, and the bytes after them and after blanks.
 #[tactic(auto, unfolding(crate::specs::Reading::items_at))]
-fn items(alloc: Global, bytes: &[u8]) -> Result<(Command, &[u8]), Stop>
+fn items(alloc: Global, bytes: &[u8]) -> Result<(Command, &[u8]), Halt>
     ensures gives { Gives (λ x. (x.0, x.1.now)) result (items_at bytes.now) }
-    ensures within { IfErr result (λ s. left_of s ≤ length bytes.now) }
+    ensures within { IfErr result (λ halt. left_of halt ≤ length bytes.now) }
     ensures shorter { IfOk result (λ x. length x.1.now ≤ length bytes.now) }
 {
     let mut command = Command {
@@ -86,14 +86,14 @@ fn items(alloc: Global, bytes: &[u8]) -> Result<(Command, &[u8]), Stop>
 
 /// A command, which has at least one word, and the bytes after it and after blanks.
 #[tactic(auto, unfolding(crate::specs::Reading::command_at))]
-pub(crate) fn command(alloc: Global, bytes: &[u8]) -> Result<(Command, &[u8]), Stop>
+pub(crate) fn command(alloc: Global, bytes: &[u8]) -> Result<(Command, &[u8]), Halt>
     ensures gives { Gives (λ x. (x.0, x.1.now)) result (command_at bytes.now) }
-    ensures within { IfErr result (λ s. left_of s ≤ length bytes.now) }
+    ensures within { IfErr result (λ halt. left_of halt ≤ length bytes.now) }
     ensures shorter { IfOk result (λ x. length x.1.now ≤ length bytes.now) }
 {
     let (command, rest) = items(alloc, bytes)?;
     if command.words.is_empty() {
-        return Err(Stop::Text { left: rest.len() });
+        return Err(Halt::Text(stop_at(rest)));
     }
     Ok((command, rest))
 }

@@ -1,6 +1,7 @@
 //! Why a line gives no tree.
 ghost use Rattle.std.specs.Prelude.{◌≡◌};
-ghost use Rattle.sh_text.specs.declared.fault.Stop.TheVariants.{OutOfMemory};
+ghost use Rattle.sh_text.specs.declared.fault.Halt.TheVariants.{OutOfMemory};
+ghost use Rattle.sh_text.specs.Reading.{stop_at};
 
 pub use std::alloc::AllocError as NoMemory;
 use thiserror::Error;
@@ -8,8 +9,8 @@ use thiserror::Error;
 /// Why a line could not be read.
 #[derive(Clone, Copy, Debug, PartialEq, Eq, Error)]
 pub enum ShFault {
-    /// The first byte that no line has after those before it, counted from 0, or the length of a
-    /// text that ends too early.
+    /// The first byte that no line has after those before it, counted from 0, or the length in bytes
+    /// of a text that ends too early.
     #[error("byte {at}")]
     Text { at: usize },
     /// Memory ran out.
@@ -17,19 +18,32 @@ pub enum ShFault {
     NoMemory,
 }
 
-/// Why reading stops.
+/// Where reading stops: how many bytes are left from the fault on.
 #[derive(Clone, Copy)]
-pub(crate) enum Stop {
-    /// How many bytes are left from the fault on.
-    Text { left: usize },
+pub(crate) struct Stop {
+    pub(crate) left: usize,
+}
+
+/// A fault at the first of these bytes, or at the end where there is none.
+pub(crate) fn stop_at(bytes: &[u8]) -> Stop
+    ensures { result ≡ stop_at bytes.now }
+{
+    Stop { left: bytes.len() }
+}
+
+/// Why a function of this crate gives nothing.
+#[derive(Clone, Copy)]
+pub(crate) enum Halt {
+    /// A fault of the text.
+    Text(Stop),
     /// Memory ran out.
     OutOfMemory,
 }
 
-impl From<NoMemory> for Stop {
-    ghost from_gives = { λ _ e. e ≡ OutOfMemory };
+impl From<NoMemory> for Halt {
+    ghost from_gives = { λ _ halt. halt ≡ OutOfMemory };
 
-    fn from(_error: NoMemory) -> Stop {
-        Stop::OutOfMemory
+    fn from(_error: NoMemory) -> Halt {
+        Halt::OutOfMemory
     }
 }

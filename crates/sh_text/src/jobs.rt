@@ -6,11 +6,11 @@ ghost use Rattle.sh_text.specs.Reading.{Gives, left_of, commands_at, ending_at, 
 
 use crate::bytes::after_blanks;
 use crate::command::command;
-use crate::fault::Stop;
+use crate::fault::{Halt, stop_at};
 use crate::tree::{Commands, Job, Jobs};
 use std::alloc::Global;
 
-/// How many commands a job has at most.
+/// How many commands a job has at most. The limit is this crate's own.
 pub const MOST_COMMANDS: u8 = 8;
 
 /// What follows a bar, where the bytes begin with one.
@@ -25,9 +25,9 @@ fn after_bar(bytes: &[u8]) -> Option<&[u8]>
 
 /// The commands of a job, and the bytes after them.
 #[tactic(auto, unfolding(crate::specs::Reading::commands_at))]
-fn commands(alloc: Global, bytes: &[u8]) -> Result<(Commands, &[u8]), Stop>
+fn commands(alloc: Global, bytes: &[u8]) -> Result<(Commands, &[u8]), Halt>
     ensures gives { Gives (λ x. (x.0, x.1.now)) result (commands_at bytes.now) }
-    ensures within { IfErr result (λ s. left_of s ≤ length bytes.now) }
+    ensures within { IfErr result (λ halt. left_of halt ≤ length bytes.now) }
     ensures shorter { IfOk result (λ x. length x.1.now ≤ length bytes.now) }
 {
     let mut commands = Commands::new(alloc);
@@ -48,24 +48,24 @@ fn commands(alloc: Global, bytes: &[u8]) -> Result<(Commands, &[u8]), Stop>
 }
 
 /// Whether the job that ends here runs in the background, and the bytes after its end.
-fn ending(bytes: &[u8]) -> Result<(bool, &[u8]), Stop>
+fn ending(bytes: &[u8]) -> Result<(bool, &[u8]), Halt>
     ensures gives { Gives (λ x. (x.0, x.1.now)) result (ending_at bytes.now) }
-    ensures within { IfErr result (λ s. left_of s ≤ length bytes.now) }
+    ensures within { IfErr result (λ halt. left_of halt ≤ length bytes.now) }
     ensures shorter { IfOk result (λ x. length x.1.now ≤ length bytes.now - 1) }
 {
     match bytes {
         [] => Ok((false, bytes)),
         [b';', rest @ ..] => Ok((false, rest)),
         [b'&', rest @ ..] => Ok((true, rest)),
-        _ => Err(Stop::Text { left: bytes.len() }),
+        _ => Err(Halt::Text(stop_at(bytes))),
     }
 }
 
 /// A job, and the bytes after its end.
 #[tactic(auto, unfolding(crate::specs::Reading::job_at))]
-fn job(alloc: Global, bytes: &[u8]) -> Result<(Job, &[u8]), Stop>
+fn job(alloc: Global, bytes: &[u8]) -> Result<(Job, &[u8]), Halt>
     ensures gives { Gives (λ x. (x.0, x.1.now)) result (job_at bytes.now) }
-    ensures within { IfErr result (λ s. left_of s ≤ length bytes.now) }
+    ensures within { IfErr result (λ halt. left_of halt ≤ length bytes.now) }
     ensures shorter { IfOk result (λ x. length x.1.now ≤ length bytes.now - 1) }
 {
     let (commands, rest) = commands(alloc, bytes)?;
@@ -81,9 +81,9 @@ fn job(alloc: Global, bytes: &[u8]) -> Result<(Job, &[u8]), Stop>
 
 /// The jobs of a line.
 #[tactic(auto, unfolding(crate::specs::Reading::jobs_at))]
-pub(crate) fn jobs(alloc: Global, bytes: &[u8]) -> Result<Jobs, Stop>
+pub(crate) fn jobs(alloc: Global, bytes: &[u8]) -> Result<Jobs, Halt>
     ensures gives { Gives (λ x. x) result (jobs_at bytes.now) }
-    ensures within { IfErr result (λ s. left_of s ≤ length bytes.now) }
+    ensures within { IfErr result (λ halt. left_of halt ≤ length bytes.now) }
 {
     let mut jobs = Jobs::new(alloc);
     let mut rest = after_blanks(bytes);

@@ -2,8 +2,9 @@
 //! function that does nothing.
 ghost use Rattle.std.specs.Prelude.{◌≡◌, ◌↔◌, ℕ, false, List, ◌∷◌, ◌++◌, flat_map, Ok, Err};
 ghost use Rattle.std.specs.List.{AllByRecursion};
+ghost use Rattle.sh_text.specs.declared.jobs.TheConstants.{MOST_COMMANDS};
 ghost use Rattle.sh_text.specs.declared.tree.Line.{Line};
-ghost use Rattle.sh_text.specs.Grammar.{Part, IsPart, spelled, meant, SpellsWord, SpellsLine};
+ghost use Rattle.sh_text.specs.Grammar.{Part, IsPart, spelled_part, meant_part, SpellsWord, SpellsLine};
 ghost use Rattle.sh_text.specs.Reading.{begins_word, word_at, line_of};
 ghost use Rattle.sh_text.specs.Faults.{IsFirstFault};
 
@@ -11,9 +12,9 @@ ghost use Rattle.sh_text.specs.Faults.{IsFirstFault};
 /// understood: it is read as the bytes that the parts mean, up to the first byte that ends a word.
 /// Nothing else is read as a word.
 pub fn words_are_read_as_spelled()
-    ensures read { (first : Part) (more : List Part) (rest : List ℕ) → AllByRecursion IsPart (first ∷ more)
+    ensures parts { (first : Part) (more : List Part) (rest : List ℕ) → AllByRecursion IsPart (first ∷ more)
         → begins_word rest ≡ false
-        → word_at (flat_map spelled (first ∷ more) ++ rest) ≡ Ok (flat_map meant (first ∷ more), rest) }
+        → word_at (flat_map spelled_part (first ∷ more) ++ rest) ≡ Ok (flat_map meant_part (first ∷ more), rest) }
     ensures exact { (bytes word rest : List ℕ) → (word_at bytes ≡ Ok (word, rest)) ↔ SpellsWord bytes word rest }
 {}
 
@@ -26,4 +27,9 @@ pub fn lines_are_read_as_spelled()
 /// before it, or at the end.
 pub fn line_faults_are_first()
     ensures { (text : List ℕ) (at : ℕ) → line_of text ≡ Err at → IsFirstFault text at }
+{}
+
+/// The figure up to which a job has commands.
+pub fn limits()
+    ensures commands { MOST_COMMANDS ≡ 8 }
 {}

@@ -9,6 +9,7 @@
 mod bytes;
 mod command;
 mod fault;
+mod item_list;
 mod jobs;
 pub mod laws;
 mod line;
@@ -16,6 +17,7 @@ mod tree;
 mod words;
 
 pub use fault::{NoMemory, ShFault};
+pub use item_list::ItemList;
 pub use jobs::MOST_COMMANDS;
 pub use line::read_line;
 pub use tree::{Command, Commands, Job, Jobs, Line, Word, Words};

@@ -1,14 +1,15 @@
 //! A whole line.
 ghost use Rattle.std.specs.Prelude.{◌≡◌};
 ghost use Rattle.sh_text.specs.Reading.{Reads, line_of};
-ghost use Rattle.sh_text.specs.Faults.{ReadsSpelled};
+ghost use Rattle.sh_text.specs.Faults.{ReadsByGrammar};
 
-use crate::fault::{ShFault, Stop};
+use crate::fault::{Halt, ShFault};
 use crate::jobs::jobs;
 use crate::tree::Line;
 use std::alloc::Global;
 
-/// Reads a whole line, without its newline, as a tree.
+/// Reads a whole line, without its newline, as a tree (sh(1); POSIX.1, XCU 2.2 for quotes, 2.7 for
+/// redirections, 2.9 for pipelines and lists).
 ///
 /// Jobs are separated by `;` or `&`, and `&` puts the job before it in the background. Nothing but
 /// blanks may follow the last of these marks, and a line of nothing but blanks has no job; no other
@@ -21,20 +22,20 @@ use std::alloc::Global;
 /// with nothing between them are a word without bytes.
 ///
 /// `Text` comes for each text that is no such line, at the first byte that no line has after those
-/// before it, or at the length where the text ends early. The only other fault is `NoMemory`, where
-/// memory runs out.
+/// before it, or at the length in bytes where the text ends early. The only other fault is
+/// `NoMemory`, where memory runs out.
 #[tactic(auto, unfolding(crate::specs::Reading::line_of))]
 pub fn read_line(alloc: Global, text: &[u8]) -> Result<Line, ShFault>
     // By the grammar.
-    ensures spelled { ReadsSpelled text.now result }
+    ensures grammar { ReadsByGrammar text.now result }
     // The same, as a function that computes.
     ensures value { Reads result (line_of text.now) }
 {
     match jobs(alloc, text) {
         Ok(jobs) => Ok(Line { jobs }),
-        Err(Stop::Text { left }) => Err(ShFault::Text {
-            at: text.len() - left,
+        Err(Halt::Text(stop)) => Err(ShFault::Text {
+            at: text.len() - stop.left,
         }),
-        Err(Stop::OutOfMemory) => Err(ShFault::NoMemory),
+        Err(Halt::OutOfMemory) => Err(ShFault::NoMemory),
     }
 }

@@ -1,102 +1,24 @@
 //! The tree of a line.
-ghost use Rattle.std.specs.Prelude.{◌≡◌, [], ◌∷◌, ◌++◌, is_ok, length, ◌==◌, if◌then◌else◌};
 
-use crate::fault::NoMemory;
-use std::alloc::Global;
-use std::marker::Model;
+use crate::item_list::ItemList;
 
-/// A word without its quotes, seen as its bytes.
-#[derive(Drop)]
-pub struct Word {
-    bytes: Vec<u8>,
-}
+/// A word without its quotes, as its bytes, of which it may have none.
+pub type Word = ItemList<u8>;
 
-impl Model for Word {
-    ghost use Rattle.std.specs.Prelude.{ℕ, List};
+/// The words of a command, in order: at least 1.
+pub type Words = ItemList<Word>;
 
-    ghost Value = { List ℕ };
+/// The commands of a job, in order: 1 to 8.
+pub type Commands = ItemList<Command>;
 
-    ghost view = { λ w. w.bytes.items };
-}
+/// The jobs of a line, in order: 0 or more.
+pub type Jobs = ItemList<Job>;
 
-impl Word {
-    /// A word without bytes.
-    pub(crate) fn new(alloc: Global) -> Self
-        ensures { result ≡ [] }
-    {
-        Word {
-            bytes: Vec::new(alloc),
-        }
-    }
-
-    /// Puts a byte behind the others.
-    pub(crate) fn push(&mut self, byte: u8) -> Result<(), NoMemory>
-        ensures { self.new ≡ (if is_ok result then self.old ++ byte ∷ [] else self.old) }
-    {
-        self.bytes.push(byte)?;
-        Ok(())
-    }
-
-    /// The bytes of the word.
-    pub fn as_bytes(&self) -> &[u8]
-        ensures { result.now ≡ self.now }
-    {
-        &self.bytes
-    }
-}
-
-/// The words of a command, seen as their list.
-#[derive(Drop)]
-pub struct Words {
-    items: Vec<Word>,
-}
-
-impl Model for Words {
-    ghost use Rattle.std.specs.Prelude.{List};
-    ghost use Rattle.sh_text.specs.declared.tree.Word.{Word};
-
-    ghost Value = { List Word };
-
-    ghost view = { λ w. w.items.items };
-}
-
-impl Words {
-    /// No words.
-    pub(crate) fn new(alloc: Global) -> Self
-        ensures { result ≡ [] }
-    {
-        Words {
-            items: Vec::new(alloc),
-        }
-    }
-
-    /// Puts a word behind the others.
-    pub(crate) fn push(&mut self, word: Word) -> Result<(), NoMemory>
-        ensures { self.new ≡ (if is_ok result then self.old ++ word ∷ [] else self.old) }
-    {
-        self.items.push(word)?;
-        Ok(())
-    }
-
-    /// Whether there is no word.
-    pub fn is_empty(&self) -> bool
-        ensures { result ≡ (length self.now == 0) }
-    {
-        self.items.is_empty()
-    }
-
-    /// The words in order.
-    pub fn as_slice(&self) -> &[Word]
-        ensures { result.now ≡ self.now }
-    {
-        &self.items
-    }
-}
-
-/// A command: its words, of which there is at least one, and where its input comes from and its
-/// output goes to.
+/// A simple command (POSIX.1, XCU 2.9.1): its words, of which there is at least one, and where its
+/// input comes from and its output goes to (XCU 2.7).
 #[derive(Drop)]
 pub struct Command {
+    /// The words in order, the name of the program first.
     pub words: Words,
     /// The word behind `<`.
     pub input: Option<Word>,
@@ -106,98 +28,19 @@ pub struct Command {
     pub append: bool,
 }
 
-/// The commands of a job, from 1 to 8, seen as their list.
-#[derive(Drop)]
-pub struct Commands {
-    items: Vec<Command>,
-}
-
-impl Model for Commands {
-    ghost use Rattle.std.specs.Prelude.{List};
-    ghost use Rattle.sh_text.specs.declared.tree.Command.{Command};
-
-    ghost Value = { List Command };
-
-    ghost view = { λ c. c.items.items };
-}
-
-impl Commands {
-    /// No commands.
-    pub(crate) fn new(alloc: Global) -> Self
-        ensures { result ≡ [] }
-    {
-        Commands {
-            items: Vec::new(alloc),
-        }
-    }
-
-    /// Puts a command behind the others.
-    pub(crate) fn push(&mut self, command: Command) -> Result<(), NoMemory>
-        ensures { self.new ≡ (if is_ok result then self.old ++ command ∷ [] else self.old) }
-    {
-        self.items.push(command)?;
-        Ok(())
-    }
-
-    /// The commands in order.
-    pub fn as_slice(&self) -> &[Command]
-        ensures { result.now ≡ self.now }
-    {
-        &self.items
-    }
-}
-
-/// A job: commands of which each one's output is the next one's input.
+/// A pipeline (POSIX.1, XCU 2.9.2): 1 to 8 commands of which each one's output is the next one's
+/// input.
 #[derive(Drop)]
 pub struct Job {
+    /// The commands in order.
     pub commands: Commands,
-    /// Whether the shell does not wait for it.
+    /// Whether the shell does not wait for it, since it ends with `&` (XCU 2.9.3).
     pub background: bool,
 }
 
-/// The jobs of a line, seen as their list.
-#[derive(Drop)]
-pub struct Jobs {
-    items: Vec<Job>,
-}
-
-impl Model for Jobs {
-    ghost use Rattle.std.specs.Prelude.{List};
-    ghost use Rattle.sh_text.specs.declared.tree.Job.{Job};
-
-    ghost Value = { List Job };
-
-    ghost view = { λ j. j.items.items };
-}
-
-impl Jobs {
-    /// No jobs.
-    pub(crate) fn new(alloc: Global) -> Self
-        ensures { result ≡ [] }
-    {
-        Jobs {
-            items: Vec::new(alloc),
-        }
-    }
-
-    /// Puts a job behind the others.
-    pub(crate) fn push(&mut self, job: Job) -> Result<(), NoMemory>
-        ensures { self.new ≡ (if is_ok result then self.old ++ job ∷ [] else self.old) }
-    {
-        self.items.push(job)?;
-        Ok(())
-    }
-
-    /// The jobs in order.
-    pub fn as_slice(&self) -> &[Job]
-        ensures { result.now ≡ self.now }
-    {
-        &self.items
-    }
-}
-
-/// A line: its jobs in order, and none where the line is blank.
+/// A list of jobs (POSIX.1, XCU 2.9.3): in order, and none where the line has nothing but blanks.
 #[derive(Drop)]
 pub struct Line {
+    /// The jobs in order.
     pub jobs: Jobs,
 }

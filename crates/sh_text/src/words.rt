@@ -4,7 +4,7 @@ ghost use Rattle.sh_text.specs.Bytes.{after_blanks};
 ghost use Rattle.sh_text.specs.Reading.{Gives, left_of, is_end, is_kept, quoting_after, begins_word, word_at, target_at};
 
 use crate::bytes::{after_blanks, ends_word};
-use crate::fault::Stop;
+use crate::fault::{Halt, stop_at};
 use crate::tree::Word;
 use std::alloc::Global;
 
@@ -18,9 +18,9 @@ pub(crate) enum Quoting {
     /// Not at all.
     Bare,
     /// It stands between two single quotes.
-    Quoted,
+    InQuotes,
     /// It follows a backslash.
-    Escaped,
+    BehindBackslash,
 }
 
 /// Whether the byte ends the word.
@@ -29,7 +29,7 @@ fn is_end(quoting: Quoting, byte: u8) -> bool
 {
     match quoting {
         Quoting::Bare => ends_word(byte),
-        Quoting::Quoted | Quoting::Escaped => false,
+        Quoting::InQuotes | Quoting::BehindBackslash => false,
     }
 }
 
@@ -39,8 +39,8 @@ fn is_kept(quoting: Quoting, byte: u8) -> bool
 {
     match quoting {
         Quoting::Bare => byte != QUOTE && byte != BACKSLASH,
-        Quoting::Quoted => byte != QUOTE,
-        Quoting::Escaped => true,
+        Quoting::InQuotes => byte != QUOTE,
+        Quoting::BehindBackslash => true,
     }
 }
 
@@ -49,9 +49,9 @@ fn quoting_after(quoting: Quoting, byte: u8) -> Quoting
     ensures { result ≡ quoting_after quoting byte }
 {
     match quoting {
-        Quoting::Bare if byte == QUOTE => Quoting::Quoted,
-        Quoting::Bare if byte == BACKSLASH => Quoting::Escaped,
-        Quoting::Quoted if byte != QUOTE => Quoting::Quoted,
+        Quoting::Bare if byte == QUOTE => Quoting::InQuotes,
+        Quoting::Bare if byte == BACKSLASH => Quoting::BehindBackslash,
+        Quoting::InQuotes if byte != QUOTE => Quoting::InQuotes,
         _ => Quoting::Bare,
     }
 }
@@ -68,13 +68,13 @@ pub(crate) fn begins_word(bytes: &[u8]) -> bool
 
 /// A word, which has to come next, and the bytes after it.
 #[tactic(auto, unfolding(crate::specs::Reading::word_from, crate::specs::Reading::word_at))]
-pub(crate) fn word(alloc: Global, bytes: &[u8]) -> Result<(Word, &[u8]), Stop>
+pub(crate) fn word(alloc: Global, bytes: &[u8]) -> Result<(Word, &[u8]), Halt>
     ensures gives { Gives (λ x. (x.0, x.1.now)) result (word_at bytes.now) }
-    ensures within { IfErr result (λ s. left_of s ≤ length bytes.now) }
+    ensures within { IfErr result (λ halt. left_of halt ≤ length bytes.now) }
     ensures shorter { IfOk result (λ x. length x.1.now < length bytes.now) }
 {
     if !begins_word(bytes) {
-        return Err(Stop::Text { left: bytes.len() });
+        return Err(Halt::Text(stop_at(bytes)));
     }
     let mut word = Word::new(alloc);
     let mut quoting = Quoting::Bare;
@@ -91,15 +91,15 @@ pub(crate) fn word(alloc: Global, bytes: &[u8]) -> Result<(Word, &[u8]), Stop>
     }
     match quoting {
         Quoting::Bare => Ok((word, rest)),
-        Quoting::Quoted | Quoting::Escaped => Err(Stop::Text { left: 0 }),
+        Quoting::InQuotes | Quoting::BehindBackslash => Err(Halt::Text(stop_at(&[]))),
     }
 }
 
 /// The word behind a mark of redirection, with blanks before it or none, and the bytes after it.
 #[tactic(auto, unfolding(crate::specs::Reading::target_at))]
-pub(crate) fn target(alloc: Global, bytes: &[u8]) -> Result<(Word, &[u8]), Stop>
+pub(crate) fn target(alloc: Global, bytes: &[u8]) -> Result<(Word, &[u8]), Halt>
     ensures gives { Gives (λ x. (x.0, x.1.now)) result (target_at bytes.now) }
-    ensures within { IfErr result (λ s. left_of s ≤ length bytes.now) }
+    ensures within { IfErr result (λ halt. left_of halt ≤ length bytes.now) }
     ensures shorter { IfOk result (λ x. length x.1.now < length bytes.now) }
 {
     word(alloc, after_blanks(bytes))

@@ -8,7 +8,9 @@ use Rattle.termios_core.specs.declared.flags.Flags.{Flags}
 
 -- every flag, in the order in which they are printed
 abbrev pub all_flags : List Flag
-all_flags = Istrip ∷ Inlcr ∷ Igncr ∷ Icrnl ∷ Ixon ∷ Opost ∷ Onlcr ∷ Ocrnl ∷ Clocal ∷ Hupcl ∷ Isig ∷ Icanon ∷ Echo ∷ Echoe ∷ Echok ∷ Echonl ∷ Echoctl ∷ Noflsh ∷ Tostop ∷ []
+all_flags =
+    Istrip ∷ Inlcr ∷ Igncr ∷ Icrnl ∷ Ixon ∷ Opost ∷ Onlcr ∷ Ocrnl ∷ Clocal ∷ Hupcl ∷ Isig ∷ Icanon ∷ Echo ∷ Echoe ∷ Echok ∷ Echonl ∷ Echoctl ∷ Noflsh ∷ Tostop ∷
+    []
 
 -- the word of a flag
 abbrev pub word : Flag → List ℕ

@@ -39,7 +39,21 @@ bytes_in text = each byte_of (parts plus text)
 -- the termios of these flags and eleven numbers
 abbrev pub with_numbers : Flags → List ℕ → Option Termios
 with_numbers flags (intr ∷ quit ∷ erase ∷ kill ∷ eof ∷ eol ∷ start ∷ stop ∷ susp ∷ min ∷ time ∷ []) =
-    Some (record { flags = flags; intr = intr; quit = quit; erase = erase; kill = kill; eof = eof; eol = eol; start = start; stop = stop; susp = susp; min = min; time = time })
+    Some
+    (record {
+      flags = flags;
+      intr = intr;
+      quit = quit;
+      erase = erase;
+      kill = kill;
+      eof = eof;
+      eol = eol;
+      start = start;
+      stop = stop;
+      susp = susp;
+      min = min;
+      time = time;
+    })
 with_numbers flags _ = None
 
 -- what stands before and after the first colon

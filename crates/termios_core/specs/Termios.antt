@@ -16,7 +16,20 @@ HasBytes t = AllByRecursion (λ n. n < 256) (numbers t)
 
 -- control C, control \, DEL, control U, control D, no EOL, control Q, control S and control Z; MIN is 1 and TIME 0
 abbrev pub with_default_characters : Flags → Termios
-with_default_characters flags = record { flags = flags; intr = 3; quit = 28; erase = 127; kill = 21; eof = 4; eol = 255; start = 17; stop = 19; susp = 26; min = 1; time = 0 }
+with_default_characters flags = record {
+  flags = flags;
+  intr = 3;
+  quit = 28;
+  erase = 127;
+  kill = 21;
+  eof = 4;
+  eol = 255;
+  start = 17;
+  stop = 19;
+  susp = 26;
+  min = 1;
+  time = 0;
+}
 
 -- lines are edited and echoed, and signal characters act
 abbrev pub cooked : Termios

@@ -27,7 +27,7 @@ pub enum Flag {
     Tostop,
 }
 
-/// The flags of a terminal (termios(4)).
+/// The flags of a terminal (termios(4)), nineteen in all.
 #[derive(Clone, Copy, PartialEq, Eq)]
 pub struct Flags {
     /// Input bytes are cut to seven bits.
@@ -94,7 +94,7 @@ impl Flag {
         Flag::Tostop,
     ];
 
-    /// The word of the flag.
+    /// The word of the flag (stty(1)): at most 7 letters.
     pub fn word(self) -> &'static [u8]
         ensures text { result.now ≡ word self }
         ensures most { length result.now ≤ 7 }
@@ -122,11 +122,11 @@ impl Flag {
         }
     }
 
-    /// The flag of a word.
-    pub fn named(name: &[u8]) -> Option<Flag>
-        ensures { result ≡ flag_of name.now }
+    /// The flag of a word (stty(1)), and `None` where no flag has it.
+    pub fn of_word(word: &[u8]) -> Option<Flag>
+        ensures { result ≡ flag_of word.now }
     {
-        Flag::ALL.iter().copied().find(|flag| flag.word() == name)
+        Flag::ALL.iter().copied().find(|flag| flag.word() == word)
     }
 }
 

@@ -1,11 +1,11 @@
 //! What holds of every termios and every text, as contracts of functions that do nothing.
 ghost use Rattle.std.specs.Prelude.{◌≡◌, ℕ, ◌≤◌, ◌↔◌, List, length, Some};
+ghost use Rattle.termios_core.specs.declared.print.TheConstants.{TEXT_ROOM, TERMIOS_ROOM};
+ghost use Rattle.termios_core.specs.declared.termios.TheConstants.{DISABLED};
 ghost use Rattle.termios_core.specs.declared.termios.Termios.{Termios};
 ghost use Rattle.termios_core.specs.Termios.{HasBytes};
 ghost use Rattle.termios_core.specs.Text.{termios_text, Spells, IsWord};
 ghost use Rattle.termios_core.specs.Reading.{termios_of};
-
-use crate::print::TERMIOS_ROOM;
 
 /// What is printed of a termios is read as that termios.
 pub fn read_back()
@@ -20,5 +20,12 @@ pub fn one_grammar()
 /// What is printed is one word of at most 300 bytes.
 pub fn one_word()
     ensures word { (t : Termios) → HasBytes t → IsWord (termios_text t) }
-    ensures most { (t : Termios) → HasBytes t → length (termios_text t) ≤ TERMIOS_ROOM }
+    ensures most { (t : Termios) → HasBytes t → length (termios_text t) ≤ 300 }
+{}
+
+/// The figures of the limits: bytes of texts, and the control character that is disabled.
+pub fn limits()
+    ensures text { TEXT_ROOM ≡ 4096 }
+    ensures termios { TERMIOS_ROOM ≡ 300 }
+    ensures disabled { DISABLED ≡ 255 }
 {}

@@ -11,6 +11,6 @@ mod read;
 mod termios;
 
 pub use flags::{Flag, Flags};
-pub use print::{LINE_ROOM, TERMIOS_ROOM, print_termios};
+pub use print::{TERMIOS_ROOM, TEXT_ROOM, print_termios};
 pub use read::read_termios;
 pub use termios::{DISABLED, Termios};

@@ -10,17 +10,17 @@ use crate::flags::{Flag, Flags};
 use crate::termios::Termios;
 use arrayvec::ArrayVec;
 
-/// How many bytes a line of text holds at most.
-pub const LINE_ROOM: usize = 4096;
+/// How many bytes the text has at most that a termios is printed to.
+pub const TEXT_ROOM: usize = 4096;
 
-/// How many bytes of a line must be free for a termios.
+/// How many bytes are free before a termios is printed.
 pub const TERMIOS_ROOM: usize = 300;
 
-type Line = ArrayVec<u8, LINE_ROOM>;
+type Text = ArrayVec<u8, TEXT_ROOM>;
 
 /// Bytes as they are.
-fn push_all(out: &mut Line, bytes: &[u8])
-    requires { array_vec_len out.old + length bytes.now ≤ LINE_ROOM }
+fn push_all(out: &mut Text, bytes: &[u8])
+    requires { array_vec_len out.old + length bytes.now ≤ TEXT_ROOM }
     ensures text { out.new.items ≡ out.old.items ++ bytes.now }
     ensures len { array_vec_len out.new ≡ array_vec_len out.old + length bytes.now }
 {
@@ -28,25 +28,19 @@ fn push_all(out: &mut Line, bytes: &[u8])
     let _ = out.try_extend_from_slice(bytes);
 }
 
-/// A byte in decimal.
-#[tactic(auto, using(crate::proofs::Decimals::decimals))]
-fn push_number(out: &mut Line, number: u8)
-    requires { array_vec_len out.old + 3 ≤ LINE_ROOM }
+/// A byte in decimal, at most three digits.
+#[tactic(auto, using(crate::proofs::DecimalLemmas::decimals))]
+fn push_number(out: &mut Text, number: u8)
+    requires { array_vec_len out.old + 3 ≤ TEXT_ROOM }
     ensures text { out.new.items ≡ out.old.items ++ decimal number }
     ensures room { array_vec_len out.new ≤ array_vec_len out.old + 3 }
 {
-    let tens = b'0' + number / 10 % 10;
-    let ones = b'0' + number % 10;
-    match number {
-        0..=9 => push_all(out, &[ones]),
-        10..=99 => push_all(out, &[tens, ones]),
-        100..=255 => push_all(out, &[b'0' + number / 100, tens, ones]),
-    }
+    push_all(out, itoa::Buffer::new().format(number).as_bytes());
 }
 
 /// A separator, unless nothing stands before it.
-fn push_separator(out: &mut Line, separator: u8, is_first: bool)
-    requires { array_vec_len out.old < LINE_ROOM }
+fn push_separator(out: &mut Text, separator: u8, is_first: bool)
+    requires { array_vec_len out.old < TEXT_ROOM }
     ensures text { out.new.items ≡ out.old.items ++ (if is_first then [] else separator ∷ []) }
     ensures room { array_vec_len out.new ≤ array_vec_len out.old + 1 }
 {
@@ -56,8 +50,8 @@ fn push_separator(out: &mut Line, separator: u8, is_first: bool)
 }
 
 /// Bytes in decimal, with a plus between each two. Each takes at most three digits and a plus.
-fn push_numbers(out: &mut Line, numbers: &[u8])
-    requires { array_vec_len out.old + 4 * length numbers.now ≤ LINE_ROOM }
+fn push_numbers(out: &mut Text, numbers: &[u8])
+    requires { array_vec_len out.old + 4 * length numbers.now ≤ TEXT_ROOM }
     ensures text { out.new.items ≡ out.old.items ++ join_with_byte plus (map decimal numbers.now) }
     ensures room { array_vec_len out.new ≤ array_vec_len out.old + 4 * length numbers.now }
 {
@@ -69,8 +63,8 @@ fn push_numbers(out: &mut Line, numbers: &[u8])
 
 /// The words of those of `candidates` that are on, or a dash. Each takes at most seven letters and
 /// a comma.
-fn push_flags(out: &mut Line, flags: &Flags, candidates: &[Flag])
-    requires { array_vec_len out.old + 8 * length candidates.now < LINE_ROOM }
+fn push_flags(out: &mut Text, flags: &Flags, candidates: &[Flag])
+    requires { array_vec_len out.old + 8 * length candidates.now < TEXT_ROOM }
     ensures text { out.new.items ≡ out.old.items ++ flags_text (filter (is_on flags.now) candidates.now) }
     ensures room { array_vec_len out.new ≤ array_vec_len out.old + 8 * length candidates.now + 1 }
 {
@@ -87,11 +81,11 @@ fn push_flags(out: &mut Line, flags: &Flags, candidates: &[Flag])
     }
 }
 
-/// Appends the text of a termios: the words of the flags that are on, in the order of `Flag::ALL`
-/// and with commas, or a dash where none is on; a colon; and the eleven numbers in decimal, with
-/// pluses. 300 bytes must be free.
-pub fn print_termios(t: &Termios, out: &mut ArrayVec<u8, LINE_ROOM>)
-    requires { array_vec_len out.old + TERMIOS_ROOM ≤ LINE_ROOM }
+/// Appends the text of a termios (termios(4), stty(1)): the words of the flags that are on, in the
+/// order of `Flag::ALL` and with commas, or a dash where none is on; a colon; and the eleven numbers
+/// in decimal, with pluses. It has at most 300 bytes, and so many of the 4,096 are to be free.
+pub fn print_termios(t: &Termios, out: &mut ArrayVec<u8, TEXT_ROOM>)
+    requires { array_vec_len out.old + TERMIOS_ROOM ≤ TEXT_ROOM }
     ensures text { out.new.items ≡ out.old.items ++ termios_text t.now }
     ensures room { array_vec_len out.new ≤ array_vec_len out.old + TERMIOS_ROOM }
 {

@@ -12,7 +12,7 @@ use arrayvec::ArrayVec;
 use std::str;
 
 /// A byte in decimal, without leading zeros.
-#[tactic(auto, using(crate::proofs::Bytes::other_texts))]
+#[tactic(auto, using(crate::proofs::ByteLemmas::other_texts))]
 fn read_number(text: &[u8]) -> Option<u8>
     ensures { result ≡ byte_of text.now }
 {
@@ -47,7 +47,7 @@ fn read_words(text: &[u8]) -> Option<Flags>
 {
     let mut flags = Flags::none();
     for word in text.split(|byte| *byte == b',') {
-        let flag = Flag::named(word)?;
+        let flag = Flag::of_word(word)?;
         flags.set(flag, true);
     }
     Some(flags)
@@ -131,14 +131,14 @@ fn read_spelling(text: &[u8]) -> Option<Termios>
     read_settings(flags, numbers)
 }
 
-/// The termios that a text spells: `cooked`, `raw`, or flags, a colon and eleven numbers.
+/// The termios that a text spells (stty(1)): `cooked`, `raw`, or flags, a colon and eleven numbers.
 ///
 /// The flags are a dash, or words with commas, in any order and however often. The numbers are
 /// decimal without leading zeros, at most 255, with pluses. `None` comes exactly where the text is
 /// none of these.
 pub fn read_termios(text: &[u8]) -> Option<Termios>
     // What is read is spelled so.
-    ensures found { IfSome result (λ t. Spells text.now t) }
+    ensures spelling { IfSome result (λ t. Spells text.now t) }
     // What is spelled so is read.
     ensures only { (t : Termios) → HasBytes t → Spells text.now t → result ≡ Some t }
     // The same, as a function that computes.

@@ -1,4 +1,4 @@
-use Rattle.acl_core.proofs.DecidingLaws.{groups_alone}
+use Rattle.acl_core.proofs.DecidingLemmas.{groups_alone}
 use Rattle.acl_core.proofs.laws.groups_never_fall_through.Goals as goal
 
 pub returns : goal.returns

@@ -1,4 +1,4 @@
-use Rattle.acl_core.proofs.DecidingLaws.{mask_narrows}
+use Rattle.acl_core.proofs.DecidingLemmas.{mask_narrows}
 use Rattle.acl_core.proofs.laws.mask_never_widens.Goals as goal
 
 pub returns : goal.returns

@@ -1,4 +1,4 @@
-use Rattle.acl_core.proofs.ModeLaws.{minimal_grants}
+use Rattle.acl_core.proofs.ModeLemmas.{minimal_grants}
 use Rattle.acl_core.proofs.laws.minimal_is_the_nine_bits.Goals as goal
 
 pub returns : goal.returns

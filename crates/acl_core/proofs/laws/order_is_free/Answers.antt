@@ -1,4 +1,4 @@
-use Rattle.acl_core.proofs.Faults.{same_acl}
+use Rattle.acl_core.proofs.FaultLemmas.{same_acl}
 use Rattle.acl_core.proofs.laws.order_is_free.Goals as goal
 
 pub returns : goal.returns

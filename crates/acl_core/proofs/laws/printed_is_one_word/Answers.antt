@@ -1,4 +1,4 @@
-use Rattle.acl_core.proofs.Words.{list_is_word, list_is_short}
+use Rattle.acl_core.proofs.WordLemmas.{list_is_word, list_is_short}
 use Rattle.acl_core.proofs.laws.printed_is_one_word.Goals as goal
 
 pub returns-clause-word : goal.returns-clause-word

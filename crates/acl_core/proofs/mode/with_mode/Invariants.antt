@@ -4,4 +4,5 @@ use Rattle.acl_core.specs.Mode.{bits_for, class_tag}
 use Rattle.acl_core.proofs.mode.with_mode.Given as goal
 
 abbrev pub invariant-loop-entry : goal.invariant-loop-entry
-invariant-loop-entry l = l.list.items ≡ map (λ e. record { tag = e.tag; perm = unwrap_or (bits_for (class_tag l.entries) l.mode e.tag) e.perm }) (take l.entry-index l.entries)
+invariant-loop-entry l =
+    l.list.items ≡ map (λ e. record { tag = e.tag; perm = unwrap_or (bits_for (class_tag l.entries) l.mode e.tag) e.perm }) (take l.entry-index l.entries)

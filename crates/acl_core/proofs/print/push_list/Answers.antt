@@ -1,5 +1,5 @@
 use Rattle.std.proofs.Common.{append_assoc}
-use Rattle.acl_core.proofs.Texts.{list_text-cons}
+use Rattle.acl_core.proofs.TextLemmas.{list_text-cons}
 use Rattle.acl_core.proofs.print.push_list.Goals as goal
 
 pub returns-in-Some-clause-text : goal.returns-in-Some-clause-text

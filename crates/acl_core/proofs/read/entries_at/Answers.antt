@@ -2,7 +2,7 @@ use Rattle.std.proofs.Common.{◌≡◌, ◌≢◌, ◌+◌, ◌∷◌, [], ◌+
 use Rattle.std.proofs.lemmas.Bool.{eqb-false}
 use Rattle.std.proofs.lemmas.Result.{err_from_is_err_and}
 use Rattle.acl_core.specs.Reading.{entries_at}
-use Rattle.acl_core.proofs.More.{goes_on, stops, starts}
+use Rattle.acl_core.proofs.EntryLoopLemmas.{goes_on, stops, starts}
 use Rattle.acl_core.proofs.read.entries_at.Goals as goal
 
 pub loop-rest-init : goal.loop-rest-init
@@ -19,7 +19,9 @@ returns-in_err-next c =
     let items = c.loop-rest.entries.items in
     let not_full : length items ≢ 64 = eqb-false _ _ (sym c.if-is_full.ensures.value) in
     let not_done : length c.loop-rest.rest.now ≢ 0 = eqb-false _ _ (sym c.loop-rest-test.ensures) in
-    rw (p.1, p.2) (stops 64 (length items) items c.loop-rest.rest.now c.in_err-next.field-0.0.left (entries_at c.args.bytes.now) (omega arith) (omega arith) c.in_err-next.ensures c.loop-rest.invariant.all)
+    rw (p.1, p.2)
+    (stops 64 (length items) items c.loop-rest.rest.now c.in_err-next.field-0.0 (entries_at c.args.bytes.now) (omega arith) (omega arith)
+    c.in_err-next.ensures c.loop-rest.invariant.all)
 
 pub loop-rest-preserved : goal.loop-rest-preserved
 loop-rest-preserved c =
@@ -29,6 +31,9 @@ loop-rest-preserved c =
     let not_done : length c.loop-rest.rest.now ≢ 0 = eqb-false _ _ (sym c.loop-rest-test.ensures) in
     let len : length (items ++ next ∷ []) ≡ length items + 1 = omega (arith, ap length c.push-in-loop-rest.ensures.items) in
     record {
-      all = rw (c.push-in-loop-rest.ensures.items, len) (goes_on 64 (length items) items c.loop-rest.rest.now next c.in_ok-next.after.now (entries_at c.args.bytes.now) (omega arith) (omega arith) c.in_ok-next.ensures c.loop-rest.invariant.all);
+      all =
+          rw (c.push-in-loop-rest.ensures.items, len)
+          (goes_on 64 (length items) items c.loop-rest.rest.now next c.in_ok-next.after.now (entries_at c.args.bytes.now) (omega arith) (omega arith)
+          c.in_ok-next.ensures c.loop-rest.invariant.all);
       most = omega arith;
     }

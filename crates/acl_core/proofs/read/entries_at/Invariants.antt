@@ -1,6 +1,6 @@
 use Rattle.std.proofs.Common.{◌≡◌, ◌-◌, ◌≤◌, length}
 use Rattle.acl_core.specs.Reading.{more_at, entries_at}
-use Rattle.acl_core.proofs.More.{after}
+use Rattle.acl_core.proofs.EntryLoopLemmas.{after}
 use Rattle.acl_core.proofs.read.entries_at.Given as goal
 
 -- the entries so far and those to come

@@ -1,5 +1,5 @@
-use Rattle.block_pool.proofs.Times.{distinct_from_once}
-use Rattle.block_pool.proofs.Leases.{once_leased, leased_below, leased_not_free}
+use Rattle.block_pool.proofs.TimesLemmas.{distinct_from_once}
+use Rattle.block_pool.proofs.LeaseLemmas.{once_leased, leased_below, leased_not_free}
 use Rattle.block_pool.proofs.laws.leased_blocks.Goals as goal
 
 pub returns-clause-below : goal.returns-clause-below

@@ -1,4 +1,4 @@
-use Rattle.block_pool.proofs.Leases.{leases_apart, leased_part, leased_rearranged}
+use Rattle.block_pool.proofs.LeaseLemmas.{leases_apart, leased_part, leased_rearranged}
 use Rattle.block_pool.proofs.laws.leases_apart.Goals as goal
 
 pub returns-clause-apart : goal.returns-clause-apart

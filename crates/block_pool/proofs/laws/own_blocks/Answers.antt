@@ -1,4 +1,4 @@
-use Rattle.block_pool.proofs.Circle.{holds_same, length-holds}
+use Rattle.block_pool.proofs.CircleLemmas.{holds_same, length-holds}
 use Rattle.block_pool.proofs.laws.own_blocks.Goals as goal
 
 pub returns-clause-same : goal.returns-clause-same

@@ -1,4 +1,4 @@
-use Rattle.block_pool.proofs.Leases.{leases_apart, reserved_in_turn}
+use Rattle.block_pool.proofs.LeaseLemmas.{leases_apart, reserved_in_turn}
 use Rattle.block_pool.proofs.laws.reserved_in_turn.Goals as goal
 
 pub returns-clause-together : goal.returns-clause-together

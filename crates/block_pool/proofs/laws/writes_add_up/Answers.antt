@@ -1,4 +1,4 @@
-use Rattle.block_pool.proofs.Blocks.{writes_none, writes_wider, writes_in_turn}
+use Rattle.block_pool.proofs.BlockLemmas.{writes_none, writes_wider, writes_in_turn}
 use Rattle.block_pool.proofs.laws.writes_add_up.Goals as goal
 
 pub returns-clause-none : goal.returns-clause-none

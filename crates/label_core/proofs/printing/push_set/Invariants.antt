@@ -1,4 +1,4 @@
-use Rattle.label_core.proofs.PrintedSets.{IsPrinted}
+use Rattle.label_core.proofs.SetTextLemmas.{IsPrinted}
 use Rattle.label_core.proofs.printing.push_set.Given as goal
 
 abbrev pub invariant-loop-n : goal.invariant-loop-n

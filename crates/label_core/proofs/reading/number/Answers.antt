@@ -2,7 +2,7 @@ use Rattle.std.proofs.Common.{ℕ, List, arith}
 use Rattle.std.proofs.lemmas.Grind.{common_steps}
 use Rattle.std.specs.Borrow.{Bor}
 use Rattle.label_core.specs.Reading.{Gives, number_at}
-use Rattle.label_core.proofs.Readers.{number_is}
+use Rattle.label_core.proofs.NumberLemmas.{number_is}
 use Rattle.label_core.proofs.reading.number.Goals as goal
 
 pub returns : goal.returns

@@ -1,5 +1,5 @@
-use Rattle.label_core.proofs.FirstFaults.{element_left}
-use Rattle.label_core.proofs.TextLaws.{whole_element_valid}
+use Rattle.label_core.proofs.FirstFaultLemmas.{element_left}
+use Rattle.label_core.proofs.TextLemmas.{whole_element_valid}
 use Rattle.label_core.proofs.reading.read_element.Goals as goal
 
 pub returns-in-Ok-clause-valid : goal.returns-in-Ok-clause-valid

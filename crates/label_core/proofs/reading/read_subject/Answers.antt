@@ -1,5 +1,5 @@
-use Rattle.label_core.proofs.FirstFaults.{subject_left}
-use Rattle.label_core.proofs.TextLaws.{whole_subject_valid}
+use Rattle.label_core.proofs.FirstFaultLemmas.{subject_left}
+use Rattle.label_core.proofs.TextLemmas.{whole_subject_valid}
 use Rattle.label_core.proofs.reading.read_subject.Goals as goal
 
 pub returns-in-Ok-clause-valid : goal.returns-in-Ok-clause-valid

@@ -1,6 +1,6 @@
 use Rattle.std.proofs.Common.{◌≤◌, length}
 use Rattle.sh_text.specs.Reading.{items_at}
-use Rattle.sh_text.proofs.ItemReading.{ItemsLeft}
+use Rattle.sh_text.proofs.ItemLoopLemmas.{ItemsLeft}
 use Rattle.sh_text.proofs.command.items.Given as goal
 
 -- the bytes that are left go on with the command so far

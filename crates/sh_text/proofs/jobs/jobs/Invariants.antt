@@ -1,6 +1,6 @@
 use Rattle.std.proofs.Common.{◌≤◌, length}
 use Rattle.sh_text.specs.Reading.{jobs_at}
-use Rattle.sh_text.proofs.JobReading.{JobsLeft}
+use Rattle.sh_text.proofs.JobLoopLemmas.{JobsLeft}
 use Rattle.sh_text.proofs.jobs.jobs.Given as goal
 
 -- the bytes that are left go on with the jobs so far

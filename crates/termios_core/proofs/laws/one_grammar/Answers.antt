@@ -1,4 +1,4 @@
-use Rattle.termios_core.proofs.Grammar.{Spells-termios_of, termios_of-Spells}
+use Rattle.termios_core.proofs.GrammarLemmas.{Spells-termios_of, termios_of-Spells}
 use Rattle.termios_core.proofs.laws.one_grammar.Goals as goal
 
 pub returns : goal.returns

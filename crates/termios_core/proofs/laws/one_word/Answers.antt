@@ -1,4 +1,4 @@
-use Rattle.termios_core.proofs.Printed.{IsWord-termios_text, length-termios_text}
+use Rattle.termios_core.proofs.PrintedTextLemmas.{IsWord-termios_text, length-termios_text}
 use Rattle.termios_core.proofs.laws.one_word.Goals as goal
 
 pub returns-clause-word : goal.returns-clause-word

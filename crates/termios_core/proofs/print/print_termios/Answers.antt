@@ -3,7 +3,7 @@ use Rattle.std.specs.List.{join_with_byte}
 use Rattle.std.specs.Fmt.{decimal}
 use Rattle.termios_core.specs.Flags.{on_flags}
 use Rattle.termios_core.specs.Text.{plus, flags_text, numbers_text, termios_text}
-use Rattle.termios_core.proofs.Joins.{three_parts}
+use Rattle.termios_core.proofs.JoinLemmas.{three_parts}
 use Rattle.termios_core.proofs.print.print_termios.Goals as goal
 
 pub returns-clause-text : goal.returns-clause-text

@@ -1,6 +1,6 @@
 use Rattle.std.proofs.Common.{◌≡◌, ◌≢◌, ◌<◌, length, get_or, ◌∙◌, rules, arith}
 use Rattle.std.proofs.lemmas.Grind.{common_steps}
-use Rattle.termios_core.proofs.Bytes.{byte_of_parsed}
+use Rattle.termios_core.proofs.ByteLemmas.{byte_of_parsed}
 use Rattle.termios_core.proofs.read.read_number.Goals as goal
 
 pub returns : goal.returns

@@ -1,4 +1,4 @@
-use Rattle.acl_core.proofs.Modes.{minimal_is_acl}
+use Rattle.acl_core.proofs.ModeListLemmas.{minimal_is_acl}
 use Rattle.acl_core.proofs.acl.Acl.minimal.Goals as goal
 
 pub invariant_of-result : goal.invariant_of-result

@@ -1,6 +1,6 @@
 use Rattle.std.proofs.Common.{sym}
-use Rattle.acl_core.proofs.Order.{in_order_permutes}
-use Rattle.acl_core.proofs.Faults.{in_order_is_acl}
+use Rattle.acl_core.proofs.OrderLemmas.{in_order_permutes}
+use Rattle.acl_core.proofs.FaultLemmas.{in_order_is_acl}
 use Rattle.acl_core.proofs.acl.Acl.new.Goals as goal
 
 pub invariant_of-result : goal.invariant_of-result

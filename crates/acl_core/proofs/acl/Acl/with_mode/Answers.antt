@@ -1,4 +1,4 @@
-use Rattle.acl_core.proofs.Modes.{with_mode_is_acl}
+use Rattle.acl_core.proofs.ModeListLemmas.{with_mode_is_acl}
 use Rattle.acl_core.proofs.acl.Acl.with_mode.Goals as goal
 
 pub invariant_of-result : goal.invariant_of-result

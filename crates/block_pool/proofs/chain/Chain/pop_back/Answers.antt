@@ -1,6 +1,6 @@
 use Rattle.std.proofs.Common.{◌≡◌, ℕ, ◌-◌, ◌*◌, ◌<◌, length, [], ◌∷◌, ◌++◌, refl, sym, ap, ◌∙◌, arith}
 use Rattle.block_pool.specs.Chain.{ChainState, holds}
-use Rattle.block_pool.proofs.Circle.{holds_back, holds-none, length-holds}
+use Rattle.block_pool.proofs.CircleLemmas.{holds_back, holds-none, length-holds}
 use Rattle.block_pool.proofs.chain.Chain.pop_back.Goals as goal
 
 pub returns-then-self-eq0-clause-none : goal.returns-then-self-eq0-clause-none

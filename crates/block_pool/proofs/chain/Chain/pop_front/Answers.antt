@@ -1,6 +1,6 @@
 use Rattle.std.proofs.Common.{◌≡◌, ℕ, ◌+◌, ◌-◌, ◌*◌, ◌%◌, ◌<◌, length, ◌∷◌, refl, sym, ap, ◌∙◌, arith}
 use Rattle.block_pool.specs.Chain.{ChainState, holds}
-use Rattle.block_pool.proofs.Circle.{holds_front, holds-none}
+use Rattle.block_pool.proofs.CircleLemmas.{holds_front, holds-none}
 use Rattle.block_pool.proofs.chain.Chain.pop_front.Goals as goal
 
 pub returns-then-self-eq0-clause-none : goal.returns-then-self-eq0-clause-none
@@ -12,7 +12,8 @@ pub returns-clause-bytes : goal.returns-clause-bytes
 returns-clause-bytes c =
     let bytes : 128 * length c.self.inside.lease ≡ c.bytes_of-bytes.result = sym c.bytes_of-bytes.ensures.bytes in
     let some : 0 < c.self.inside.count = omega arith in
-    let left : ChainState = record { blocks = c.self.inside.lease; first = (c.self.inside.first + 1) % c.bytes_of-bytes.result; count = c.self.inside.count - 1 } in
+    let left : ChainState =
+    record { blocks = c.self.inside.lease; first = (c.self.inside.first + 1) % c.bytes_of-bytes.result; count = c.self.inside.count - 1 } in
     ap (holds c.args.pool.now) (sym c.self.view_is)
     ∙ holds_front c.args.pool.now c.self.inside.lease c.self.inside.first c.self.inside.count c.bytes_of-bytes.result bytes some
     ∙ ap (λ (byte : ℕ). byte ∷ holds c.args.pool.now left) (sym c.byte-byte.ensures)

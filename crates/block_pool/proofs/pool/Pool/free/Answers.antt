@@ -1,6 +1,6 @@
 use Rattle.std.proofs.Common.{[], arith}
 use Rattle.std.proofs.lemmas.Grind.{common_steps}
-use Rattle.block_pool.proofs.Leases.{length_leased}
+use Rattle.block_pool.proofs.LeaseLemmas.{length_leased}
 use Rattle.block_pool.proofs.pool.Pool.free.Goals as goal
 
 pub overflow_cast-result : goal.overflow_cast-result

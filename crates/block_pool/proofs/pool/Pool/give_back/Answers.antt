@@ -1,10 +1,10 @@
 use Rattle.std.proofs.Common.{sym, ap, arith}
 use Rattle.std.proofs.lemmas.Grind.{common_steps}
-use Rattle.block_pool.proofs.Leases.{length_leased, leased_before}
+use Rattle.block_pool.proofs.LeaseLemmas.{length_leased, leased_before}
 use Rattle.block_pool.proofs.pool.Pool.give_back.Goals as goal
 
-pub returns-clause-returned : goal.returns-clause-returned
-returns-clause-returned c =
+pub returns-clause-lends : goal.returns-clause-lends
+returns-clause-lends c =
     let within = length_leased c.args.self.now c.args.lease c.requires in
     record {
       blocks = sym (ap (λ pool. pool.blocks) c.self.view_is);
@@ -12,4 +12,4 @@ returns-clause-returned c =
     }
 
 pub returns-clause-others : goal.returns-clause-others
-returns-clause-others c = λ leased of_pool. leased_before c.args.lease _ c.args.self.now leased (returns-clause-returned c) of_pool
+returns-clause-others c = λ leased of_pool. leased_before c.args.lease _ c.args.self.now leased (returns-clause-lends c) of_pool

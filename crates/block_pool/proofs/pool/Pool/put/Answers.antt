@@ -3,14 +3,14 @@ use Rattle.std.specs.List.{All}
 use Rattle.std.proofs.lemmas.List.{get_or_default}
 use Rattle.std.proofs.lemmas.Grind.{common_steps}
 use Rattle.block_pool.specs.Pool.{PoolState, contents}
-use Rattle.block_pool.proofs.Leases.{leased_below}
-use Rattle.block_pool.proofs.Blocks.{whole_leased, length-laid, laid_put_leased}
+use Rattle.block_pool.proofs.LeaseLemmas.{leased_below}
+use Rattle.block_pool.proofs.BlockLemmas.{whole_leased, length-bytes_in, bytes_in_put_leased}
 use Rattle.block_pool.proofs.pool.Pool.put.Goals as goal
 
 pub index_mut-block-requires : goal.index_mut-block-requires
 index_mut-block-requires c =
     let inside : c.args.place / 128 < length c.args.lease.now = omega arith in
-    let below = leased_below c.args.self.now c.args.lease.now c.requires.leased (c.args.place / 128) 0 inside in
+    let below = leased_below c.args.self.now c.args.lease.now c.requires.of_pool (c.args.place / 128) 0 inside in
     grind (arith, common_steps, below)
 
 pub returns-clause-put : goal.returns-clause-put
@@ -18,20 +18,23 @@ returns-clause-put c =
     let IsWhole : PoolState → Type 0 = λ pool. All (λ (bytes : List ℕ). length bytes ≡ 128) pool.blocks in
     let whole = subst IsWhole c.self.view_is c.self.invariant.whole in
     let inside : c.args.place / 128 < length c.args.lease.now = omega arith in
-    let below = leased_below c.args.self.now c.args.lease.now c.requires.leased (c.args.place / 128) 0 inside in
+    let below = leased_below c.args.self.now c.args.lease.now c.requires.of_pool (c.args.place / 128) 0 inside in
     let number = c.from.ensures ∙ ap₂ (λ (xs : List ℕ) (n : ℕ). get_or xs (n / 128) 0) c.numbers.ensures.numbers c.from-place.ensures in
     let blocks : c.self.inside.blocks.items ≡ c.args.self.now.blocks = ap (λ pool. pool.blocks) c.self.view_is in
     let read : c.from.result < length c.self.inside.blocks.items = rw (blocks, number) below in
-    let block = c.index_mut-block.ensures.value ∙ get_or_default c.self.inside.blocks.items c.from.result c.index_mut-block.result.now [] read ∙ ap (λ (bs : List (List ℕ)). get_or bs c.from.result []) blocks in
+    let block =
+    c.index_mut-block.ensures.value ∙ get_or_default c.self.inside.blocks.items c.from.result c.index_mut-block.result.now [] read
+    ∙ ap (λ (bs : List (List ℕ)). get_or bs c.from.result []) blocks in
     let new : PoolState = record {
       blocks = set c.self.inside.blocks.items c.from.result (set c.index_mut-block.result.now (c.from-place.result % 128) c.args.byte);
       free = c.self.inside.free.items;
     } in
-    let written : new.blocks ≡ set c.args.self.now.blocks c.from.result (set (contents c.args.self.now c.from.result) (c.args.place % 128) c.args.byte) = cc (blocks, block, c.from-place.ensures) in
-    laid_put_leased c.args.self.now new c.args.lease.now c.args.place c.args.byte c.from.result whole c.requires.leased c.requires.place number written
+    let written : new.blocks ≡ set c.args.self.now.blocks c.from.result (set (contents c.args.self.now c.from.result) (c.args.place % 128) c.args.byte) =
+    cc (blocks, block, c.from-place.ensures) in
+    bytes_in_put_leased c.args.self.now new c.args.lease.now c.args.place c.args.byte c.from.result whole c.requires.of_pool c.requires.place number written
 
 pub returns-clause-bytes : goal.returns-clause-bytes
 returns-clause-bytes c =
     let IsWhole : PoolState → Type 0 = λ pool. All (λ (bytes : List ℕ). length bytes ≡ 128) pool.blocks in
     let whole = subst IsWhole c.self.view_is c.self.invariant.whole in
-    length-laid c.args.self.now c.args.lease.now (whole_leased c.args.self.now c.args.lease.now whole c.requires.leased)
+    length-bytes_in c.args.self.now c.args.lease.now (whole_leased c.args.self.now c.args.lease.now whole c.requires.of_pool)
