@@ -20,3 +20,6 @@ mod turn;
 pub use lock::TurnLock;
 pub use pass::Pass;
 pub use turn::Turn;
+
+#[cfg(test)]
+mod tests;
