@@ -11,3 +11,6 @@ load-serving-requires g c =
       search rules,
       looks _ _ _ _ ticket.0 (ap (λ m. m.0.tickets) same.1 ∙ ticket.2) (ap (λ m. m.0.has_machine) same.1 ∙ c.requires.machine),
     )
+
+pub returns-then-serving-ticket-clause-takes : goal.returns-then-serving-ticket-clause-takes
+returns-then-serving-ticket-clause-takes g c = search rules
