@@ -5,6 +5,7 @@
 //! the same root gets the same answers.
 #![tactic(auto)]
 
+pub mod laws;
 mod machine;
 mod recorded;
 pub mod toy;

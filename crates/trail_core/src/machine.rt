@@ -1,11 +1,11 @@
 //! What a machine is.
 ghost use Rattle.std.specs.Prelude.{◌≡◌, ◌+◌, ◌≤◌, ◌↔◌, List, ◌∷◌, [], ◌++◌, length, IsTrue, IsOk, IfOk, OnOk, OnErr};
-ghost use Rattle.trail_core.specs.Machine.{IsAt};
+ghost use Rattle.trail_core.specs.Machine.{IsNextPosition};
 
 /// Memory ran out. It changes nothing.
 pub use std::alloc::AllocError as NoMemory;
 
-/// How many events a trail has at most.
+/// How many events a trail has at most: 2,147,483,648, which is 2^31.
 pub const MOST_EVENTS: u32 = 0x8000_0000;
 
 /// A machine that takes one event at a time.
@@ -18,7 +18,7 @@ pub trait Machine: Drop {
 
     type Decision: Drop;
 
-    /// Whom an event wakes.
+    /// The wakeup list of an event: who can go on once the event is decided.
     type Wakes: Drop;
 
     /// What a machine is made of. Only contracts speak of it.
@@ -34,43 +34,45 @@ pub trait Machine: Drop {
     ghost needs_no_memory: { Self.Event → Type 0 };
     /// The decision of the next event after a list.
     ghost decision: { Self.Root → List Self.Event → Self.Event → Self.Decision };
-    /// Whom that event wakes.
-    ghost woken: { Self.Root → List Self.Event → Self.Event → Self.Wakes };
+    /// The wakeup list of that event.
+    ghost wakeups: { Self.Root → List Self.Event → Self.Event → Self.Wakes };
     /// Whether that event sleeps and changes nothing.
     ghost is_idle: { Self.Root → List Self.Event → Self.Event → Type 0 };
-    /// The wakes of nobody.
-    ghost nobody: { Self.Wakes };
+    /// The empty wakeup list.
+    ghost no_wakeups: { Self.Wakes };
 
-    /// Takes the next event: decides it, and writes to `wakes` whom it wakes. `pos` is the place of
-    /// the event in the trail, counted from 1. An `Err` changes nothing.
+    /// Takes the next event: decides it, and writes its wakeup list to `wakes`.
+    ///
+    /// The event may be asked. `pos` is its position in the trail, counted from 1: one more than
+    /// the number of events so far, and at most 2,147,483,648. The one error is `NoMemory`, never
+    /// for an event that needs no memory, and it changes nothing.
     fn step(
         &mut self,
         pos: u32,
         event: &Self::Event,
         wakes: &mut Self::Wakes,
     ) -> Result<Self::Decision, NoMemory>
-        requires asked { may_ask event.now }
-        requires place { IsAt (stands self.old) pos }
+        requires event { may_ask event.now }
+        requires position { IsNextPosition (stands self.old) pos }
         requires most { pos ≤ MOST_EVENTS }
 
-        // Of each list for which the machine stands and of which this is the next place:
-        ensures decided { (events : List Self.Event) → stands self.old events → pos ≡ length events + 1 →
+        // Of each list for which the machine stands and of which this is the next position:
+        ensures decision { (events : List Self.Event) → stands self.old events → pos ≡ length events + 1 →
             IfOk result (λ d. d ≡ decision (root self.old) events event.now) }
-        ensures woken { (events : List Self.Event) → stands self.old events → pos ≡ length events + 1 →
-            OnOk result (wakes.new ≡ woken (root self.old) events event.now) }
+        ensures wakeups { (events : List Self.Event) → stands self.old events → pos ≡ length events + 1 →
+            OnOk result (wakes.new ≡ wakeups (root self.old) events event.now) }
         ensures stands { (events : List Self.Event) → stands self.old events → pos ≡ length events + 1 →
             OnOk result (stands self.new (events ++ event.now ∷ [])) }
 
         ensures root { root self.new ≡ root self.old }
         ensures memory { needs_no_memory event.now → IsOk result }
-        ensures unchanged { OnErr result (self.new ≡ self.old) }
-        ensures wakes_unchanged { OnErr result (wakes.new ≡ wakes.old) };
+        ensures nothing { OnErr result ((self.new ≡ self.old) × (wakes.new ≡ wakes.old)) };
 
-    /// The wakes of nobody, for `step` to write to.
+    /// The empty wakeup list, for `step` to write to.
     fn no_wakes() -> Self::Wakes
-        ensures { result ≡ nobody };
+        ensures { result ≡ no_wakeups };
 
-    /// Whether the event, as the next one, sleeps and changes nothing.
+    /// Whether the event, as the next one, sleeps and changes nothing. It may be asked.
     fn still_waits(&self, event: &Self::Event) -> bool
         requires { may_ask event.now }
         ensures { (events : List Self.Event) → stands self.now events →

@@ -1,14 +1,14 @@
-//! A machine and the events that it took.
+//! A machine and the trail of its events.
 ghost use Rattle.std.specs.Prelude.{◌≡◌, ◌≤◌, ◌↔◌, [], ◌∷◌, ◌++◌, length, IsTrue, IfOk, IfErr, OnOk, OnErr, Err};
 
 use crate::machine::{MOST_EVENTS, Machine, NoMemory};
 use std::alloc::Global;
 use std::marker::Model;
 
-/// Why an event was not taken. It is handed back.
+/// Why an event is not in the trail. It is handed back.
 #[derive(Debug, Drop)]
 pub enum Refused<E> {
-    /// As many events as are recorded at most were taken.
+    /// The trail is at its limit.
     Full(E),
     /// Memory ran out.
     NoMemory(E),
@@ -26,19 +26,22 @@ pub struct Recorded<M: Machine> {
 
 impl<M: Machine> Model for Recorded<M> {
     ghost use Rattle.std.specs.Prelude.{vec_capacity};
-    ghost use Rattle.trail_core.specs.Trail.{Trail, IsKept};
+    ghost use Rattle.trail_core.specs.Trail.{Trail, KeepsTrail};
 
     ghost Value = { Trail M.Root M.Event };
 
     ghost view = { λ r. record { root = M.root r.machine; most = r.most; events = r.events.items } };
 
-    ghost invariant = { λ r. IsKept (M.stands r.machine) r.most (vec_capacity r.events) r.events.items };
+    ghost invariant = { λ r. KeepsTrail (M.stands r.machine) r.most (vec_capacity r.events) r.events.items };
 }
 
 impl<M: Machine> Recorded<M> {
     ghost use Rattle.trail_core.specs.Trail.{event_of};
 
     /// A fresh machine with an empty trail, and room for `most` events.
+    ///
+    /// The machine stands for no events yet, and `most` is at most 2,147,483,648. The one error is
+    /// want of memory for that room; no event wants memory for the trail later.
     pub fn new(alloc: Global, machine: M, most: u32) -> Result<Self, NoMemory>
         requires fresh { M.stands machine [] }
         requires most { most ≤ MOST_EVENTS }
@@ -52,7 +55,7 @@ impl<M: Machine> Recorded<M> {
         })
     }
 
-    /// How many events were taken.
+    /// How many events the trail has.
     pub fn len(&self) -> u32
         ensures len { result ≡ length self.now.events }
         ensures most { result ≤ self.now.most }
@@ -60,28 +63,29 @@ impl<M: Machine> Recorded<M> {
         self.events.len() as u32
     }
 
-    /// Whether no event was taken.
+    /// Whether the trail has no event.
     pub fn is_empty(&self) -> bool
         ensures { IsTrue result ↔ (self.now.events ≡ []) }
     {
         self.events.is_empty()
     }
 
-    /// Whether the trail is at its limit.
+    /// Whether the trail is at its limit, beyond which it never is.
     pub fn is_full(&self) -> bool
-        ensures { IsTrue result ↔ (length self.now.events ≡ self.now.most) }
+        ensures full { IsTrue result ↔ (length self.now.events ≡ self.now.most) }
+        ensures within { length self.now.events ≤ self.now.most }
     {
         self.len() == self.most
     }
 
-    /// The events that were taken, in order.
+    /// The events of the trail, in order.
     pub fn events(&self) -> &[M::Event]
         ensures { result.now ≡ self.now.events }
     {
         &self.events
     }
 
-    /// Whether the event, as the next one, would sleep and change nothing.
+    /// Whether the event, as the next one, would sleep and change nothing. It may be asked.
     pub fn still_waits(&self, event: &M::Event) -> bool
         requires { M.may_ask event.now }
         ensures { IsTrue result ↔ M.is_idle self.now.root self.now.events event.now }
@@ -89,8 +93,11 @@ impl<M: Machine> Recorded<M> {
         self.machine.still_waits(event)
     }
 
-    /// Takes the event and records it. A refusal changes nothing and hands the event back: `Full`
-    /// comes exactly at the limit, and `NoMemory` never for an event that needs no memory.
+    /// Takes the event, which may be asked, and records it: answers its decision, and writes its
+    /// wakeup list to `wakes`.
+    ///
+    /// A refusal changes nothing and hands the event back: `Full` exactly where the trail is at its
+    /// limit, and else `NoMemory`, never for an event that needs no memory.
     pub fn apply(
         &mut self,
         event: M::Event,
@@ -98,13 +105,13 @@ impl<M: Machine> Recorded<M> {
     ) -> Result<M::Decision, Refused<M::Event>>
         requires { M.may_ask event }
         ensures decision { IfOk result (λ d. d ≡ M.decision self.old.root self.old.events event) }
-        ensures wakes { OnOk result (wakes.new ≡ M.woken self.old.root self.old.events event) }
-        ensures recorded { OnOk result (self.new ≡ record self.old { events = self.old.events ++ event ∷ [] }) }
+        ensures wakeups { OnOk result (wakes.new ≡ M.wakeups self.old.root self.old.events event) }
+        ensures trail { OnOk result (self.new ≡ record self.old { events = self.old.events ++ event ∷ [] }) }
 
         ensures full { (result ≡ Err (Refused.Full event)) ↔ (length self.old.events ≡ self.old.most) }
         ensures memory { M.needs_no_memory event → IfErr result (λ refused. refused ≡ Refused.Full event) }
-        ensures returned { IfErr result (λ refused. event_of refused ≡ event) }
-        ensures err { OnErr result ((self.new ≡ self.old) × (wakes.new ≡ wakes.old)) }
+        ensures event { IfErr result (λ refused. event_of refused ≡ event) }
+        ensures nothing { OnErr result ((self.new ≡ self.old) × (wakes.new ≡ wakes.old)) }
     {
         if self.is_full() {
             return Err(Refused::Full(event));

@@ -1,11 +1,11 @@
-//! A machine to try things on.
+//! A small machine on which what stands over machines is tried.
 ghost use Rattle.std.specs.Prelude.{◌≡◌};
 ghost use Rattle.trail_core.specs.Tally.{sum_of, decision_at, MustWait};
 
 use crate::machine::{Machine, NoMemory};
 use std::marker::Model;
 
-/// What a tally is asked.
+/// What a tally may be asked, each at any time. None of it wants memory.
 #[derive(Clone, Copy)]
 pub enum TallyEvent {
     /// Adds a number, modulo 2^32.
@@ -23,7 +23,7 @@ pub enum TallyDecision {
     Wait,
 }
 
-/// A sum, which contracts see as a number.
+/// A sum, first 0, which contracts see as a number.
 #[derive(Clone, Copy, Default)]
 pub struct Tally {
     sum: u32,
@@ -67,11 +67,11 @@ impl Machine for Tally {
 
     ghost decision = { λ _ events event. decision_at (sum_of events) event };
 
-    ghost woken = { λ _ _ _. tt };
+    ghost wakeups = { λ _ _ _. tt };
 
     ghost is_idle = { λ _ events event. MustWait (sum_of events) event };
 
-    ghost nobody = { tt };
+    ghost no_wakeups = { tt };
 
     fn step(
         &mut self,
