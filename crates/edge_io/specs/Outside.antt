@@ -1,9 +1,13 @@
 -- What sources and sinks promise.
-use Rattle.std.specs.Prelude.{◌≡◌, ℕ, ◌-◌, ◌^◌, ◌<◌, ◌≤◌, ◌⊎◌, List, [], ◌++◌, take, Option, Some, None}
+use Rattle.std.specs.Prelude.{◌≡◌, ℕ, ◌+◌, ◌-◌, ◌^◌, ◌<◌, ◌≤◌, ◌⊎◌, min, List, [], ◌++◌, take, Option, Some, None}
 
 -- The count rose. At its last value, 2 ^ 64 - 1, it counts as risen.
 abbrev pub Rose : ℕ → ℕ → Type 0
 Rose old new = (old < new) ⊎ (2 ^ 64 - 1 ≤ new)
+
+-- A count of 64 bits, after n more. It stays at its last value.
+abbrev pub count_after : ℕ → ℕ → ℕ
+count_after old n = min (old + n) (2 ^ 64 - 1)
 
 -- A read took the first n bytes of what was left, and put them at the front of a slice. It took
 -- none only at the end. Nothing is said where the source does not tell what is left.
