@@ -1,4 +1,4 @@
--- What sources and sinks promise.
+-- What sources, sinks and ports promise.
 use Rattle.std.specs.Prelude.{◌≡◌, ℕ, ◌+◌, ◌-◌, ◌^◌, ◌<◌, ◌≤◌, ◌⊎◌, min, List, [], ◌++◌, take, Option, Some, None}
 
 -- The count rose. At its last value, 2 ^ 64 - 1, it counts as risen.
@@ -16,8 +16,8 @@ Gave None after into n = Unit {0}
 Gave (Some left) None into n = ⊥
 Gave (Some left) (Some rest) into n = (left ≡ take n into ++ rest) × (n ≡ 0 → left ≡ [])
 
--- What was written has these bytes more at its end, where the sink tells what was written.
-abbrev pub Appended : Option (List ℕ) → Option (List ℕ) → List ℕ → Type 0
-Appended None after bytes = Unit {0}
-Appended (Some written) None bytes = ⊥
-Appended (Some written) (Some after) bytes = after ≡ written ++ bytes
+-- What was written, heard or sent has this more at its end, where the object tells it.
+abbrev pub Appended : {X : Type 0} → Option (List X) → Option (List X) → List X → Type 0
+Appended None after more = Unit {0}
+Appended (Some before) None more = ⊥
+Appended (Some before) (Some after) more = after ≡ before ++ more

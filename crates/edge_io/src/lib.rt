@@ -5,10 +5,14 @@
 //! the thin adapters of the system do not.
 #![tactic(auto)]
 
+mod mem_port;
 mod memory;
 mod outside;
+mod port;
 mod system;
 
+pub use mem_port::{Answer, MemPort};
 pub use memory::{MemSink, MemSource};
 pub use outside::{Failed, Sink, Source};
+pub use port::{Heard, LineInput, LinePort};
 pub use system::{FileSource, StdinSource, StdoutSink};
