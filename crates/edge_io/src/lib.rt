@@ -5,14 +5,23 @@
 //! the thin adapters of the system do not.
 #![tactic(auto)]
 
+mod crew;
+mod crews;
 mod mem_port;
 mod memory;
 mod outside;
 mod port;
+mod sockets;
 mod system;
+#[cfg(test)]
+mod tests;
+mod threads;
 
+pub use crew::{Crew, Job, Refused};
+pub use crews::{MemCrew, ThreadCrew};
 pub use mem_port::{Answer, MemPort};
 pub use memory::{MemSink, MemSource};
 pub use outside::{Failed, Sink, Source};
 pub use port::{Heard, LineInput, LinePort};
+pub use sockets::SocketPort;
 pub use system::{FileSource, StdinSource, StdoutSink};
