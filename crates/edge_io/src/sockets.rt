@@ -182,9 +182,7 @@ impl Socket {
     fn accept(&mut self) -> io::Result<()> {
         let (mut client, _) = self.listener.accept()?;
         let both = Interest::READABLE | Interest::WRITABLE;
-        self.poll
-            .registry()
-            .register(&mut client, CLIENT, both)?;
+        self.poll.registry().register(&mut client, CLIENT, both)?;
         self.client = Some(client);
         Ok(())
     }

@@ -10,8 +10,8 @@ use std::os::unix::net::UnixStream;
 use std::rt::Clock;
 use std::sync::Wait;
 use std::test::Fail;
-use std::time::Duration;
 use std::thread;
+use std::time::Duration;
 
 /// A port in memory with these answers and room for three bytes, whose wait with this number fails.
 fn port(alloc: Global, answers: Vec<Answer>, failing_wait: u64) -> Result<MemPort, Fail> {
@@ -52,7 +52,10 @@ fn a_port_in_memory_answers_in_pieces(rt: HostRuntime) -> Result<(), Fail> {
 #[test]
 fn a_port_in_memory_takes_what_fits(rt: HostRuntime) -> Result<(), Fail> {
     let mut port = port(rt.alloc(), Vec::new(rt.alloc()), 0)?;
-    assert_eq!(rt; (port.send(&rt, b"ab"), port.send(&rt, b"cd")), (Ok(2), Ok(1)));
+    assert_eq!(rt;
+        (port.send(&rt, b"ab"), port.send(&rt, b"cd")),
+        (Ok(2), Ok(1))
+    );
     assert!(rt; port.send(&rt, b"e").is_err());
     assert_eq!(rt; port.sent(), b"abc".as_slice());
     Ok(())
@@ -113,7 +116,12 @@ fn serve_a_client<R: Wait + Files + Net>(
 #[test]
 fn a_socket_serves_one_client_after_another(rt: HostRuntime) -> Result<(), Fail> {
     let path = "edge_io_tty0";
-    let heard = [Ok(Heard::Up), Ok(Heard::Bytes(3)), Ok(Heard::Quiet), Ok(Heard::Down)];
+    let heard = [
+        Ok(Heard::Up),
+        Ok(Heard::Bytes(3)),
+        Ok(Heard::Quiet),
+        Ok(Heard::Down),
+    ];
     for _ in 0..2 {
         let (mut port, waker) = SocketPort::new(&rt, rt.alloc(), path);
         let Some(waker) = waker else {
