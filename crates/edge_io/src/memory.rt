@@ -1,8 +1,7 @@
 //! A source and a sink in memory, which tell what they hold, each with a list of the calls that
 //! are to fail.
 ghost use Rattle.std.specs.Prelude.{◌≡◌, ℕ, ◌+◌, ◌-◌, ◌<◌, ◌≤◌, ◌↔◌, min, List, [], ◌++◌, length, take, drop, Some, IfOk, OnOk, OnErr, IsErr, Contains, ◌⊎◌};
-ghost use Rattle.edge_io.specs.Outside.{Rose, Gave, Appended};
-ghost use Rattle.edge_io.specs.Memory.{raised};
+ghost use Rattle.edge_io.specs.Outside.{Rose, Gave, Appended, count_after};
 
 use crate::outside::{Failed, Sink, Source};
 use std::alloc::{AllocError, Global};
@@ -20,9 +19,9 @@ pub struct MemSource {
 
 impl Model for MemSource {
     ghost use Rattle.std.specs.Prelude.{◌≤◌, drop, vec_len};
-    ghost use Rattle.edge_io.specs.Memory.{Held};
+    ghost use Rattle.edge_io.specs.Memory.{SourceState};
 
-    ghost Value = { Held };
+    ghost Value = { SourceState };
 
     ghost view = { λ s. record { left = drop s.at s.bytes.items; calls = s.calls; failing = s.failing.items; faults = s.faults } };
 
@@ -57,17 +56,18 @@ impl Source for MemSource {
         ensures gave { IfOk result (λ n. Gave (Some self.old.left) (Some self.new.left) into.new n) }
         ensures failed { OnErr result (Rose self.old.faults self.new.faults) }
         ensures kept { OnErr result (Some self.new.left ≡ Some self.old.left) }
+        ensures no_fault { OnOk result (self.new.faults ≡ self.old.faults) }
         ensures grows { self.old.faults ≤ self.new.faults }
 
         ensures count { IfOk result (λ n. n ≡ min (length self.old.left) (length into.old)) }
-        ensures calls { self.new.calls ≡ raised self.old.calls }
+        ensures calls { self.new.calls ≡ count_after self.old.calls 1 }
         ensures listed { IsErr result ↔ Contains self.old.failing self.new.calls }
+        ensures fault { OnErr result (self.new.faults ≡ count_after self.old.faults 1) }
         ensures same_list { self.new.failing ≡ self.old.failing }
     {
         self.calls = self.calls.saturating_add(1);
         if self.failing.contains(&self.calls) {
-            self.faults = self.faults.saturating_add(1);
-            return Err(Failed);
+            return Err(Failed::count_in(&mut self.faults));
         }
         let (_, rest) = self.bytes.as_slice().split_at(self.at);
         let count = rest.len().min(into.len());
@@ -90,9 +90,9 @@ pub struct MemSink {
 
 impl Model for MemSink {
     ghost use Rattle.std.specs.Prelude.{◌+◌, ◌≤◌, vec_len, vec_capacity};
-    ghost use Rattle.edge_io.specs.Memory.{Filled};
+    ghost use Rattle.edge_io.specs.Memory.{SinkState};
 
-    ghost Value = { Filled };
+    ghost Value = { SinkState };
 
     ghost view = { λ s. record { written = s.bytes.items; room = s.room; calls = s.calls; failing = s.failing.items; faults = s.faults } };
 
@@ -135,19 +135,20 @@ impl Sink for MemSink {
         ensures took { IfOk result (λ n. Appended (Some self.old.written) (Some self.new.written) (take n from.now)) }
         ensures failed { OnErr result (Rose self.old.faults self.new.faults) }
         ensures kept { OnErr result (Some self.new.written ≡ Some self.old.written) }
+        ensures no_fault { OnOk result (self.new.faults ≡ self.old.faults) }
         ensures grows { self.old.faults ≤ self.new.faults }
 
         ensures count { IfOk result (λ n. n ≡ min (length from.now) self.old.room) }
         ensures room { IfOk result (λ n. self.new.room + n ≡ self.old.room) }
         ensures same_room { OnErr result (self.new.room ≡ self.old.room) }
-        ensures calls { self.new.calls ≡ raised self.old.calls }
+        ensures calls { self.new.calls ≡ count_after self.old.calls 1 }
         ensures refused { IsErr result ↔ (Contains self.old.failing self.new.calls ⊎ (self.old.room ≡ 0)) }
+        ensures fault { OnErr result (self.new.faults ≡ count_after self.old.faults 1) }
         ensures same_list { self.new.failing ≡ self.old.failing }
     {
         self.calls = self.calls.saturating_add(1);
         if self.room == 0 || self.failing.contains(&self.calls) {
-            self.faults = self.faults.saturating_add(1);
-            return Err(Failed);
+            return Err(Failed::count_in(&mut self.faults));
         }
         let count = from.len().min(self.room);
         self.bytes.extend_from_slice(&from[..count]).unwrap();

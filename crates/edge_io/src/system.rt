@@ -1,9 +1,11 @@
-//! The standard streams of the process, and files. They tell nothing of their bytes.
+//! The standard streams of the process, and files. They tell nothing of their bytes, and contracts
+//! see of each its count of faults.
 ghost use Rattle.std.specs.Prelude.{◌≡◌, None};
 
 use crate::outside::{Failed, Sink, Source};
 use std::fs;
 use std::io::{self, BufRead, Printer, Read, Write};
+use std::marker::Model;
 use std::rt::Files;
 
 /// The standard input.
@@ -13,9 +15,19 @@ pub struct StdinSource<R: BufRead + Drop> {
     faults: u64,
 }
 
+impl<R: BufRead + Drop> Model for StdinSource<R> {
+    ghost use Rattle.std.specs.Prelude.{ℕ};
+
+    ghost Value = { ℕ };
+
+    ghost view = { λ s. s.faults };
+}
+
 impl<R: BufRead + Drop> StdinSource<R> {
     /// The standard input of this runtime.
-    pub fn new<I: Input<Reader = R>>(rt: &I) -> Self {
+    pub fn new<I: Input<Reader = R>>(rt: &I) -> Self
+        ensures { result ≡ 0 }
+    {
         StdinSource {
             reader: rt.reader(),
             faults: 0,
@@ -24,17 +36,14 @@ impl<R: BufRead + Drop> StdinSource<R> {
 }
 
 impl<R: BufRead + Drop> Source for StdinSource<R> {
-    ghost faults = { λ s. s.faults };
+    ghost faults = { λ s. s };
 
     ghost left = { λ s. None };
 
     fn read(&mut self, into: &mut [u8]) -> Result<usize, Failed> {
         match self.reader.read(into) {
             Ok(count) => Ok(count),
-            Err(_) => {
-                self.faults = self.faults.saturating_add(1);
-                Err(Failed)
-            }
+            Err(_) => Err(Failed::count_in(&mut self.faults)),
         }
     }
 }
@@ -47,10 +56,18 @@ pub struct FileSource<F: Read + Drop> {
     faults: u64,
 }
 
+impl<F: Read + Drop> Model for FileSource<F> {
+    ghost use Rattle.std.specs.Prelude.{ℕ};
+
+    ghost Value = { ℕ };
+
+    ghost view = { λ s. s.faults };
+}
+
 impl<F: Read + Drop> FileSource<F> {
     /// The file with this path. One that cannot be opened fails at its first read.
     pub fn new<R: Files<File = F>>(rt: &R, path: &str) -> Self
-        ensures { result.faults ≡ 0 }
+        ensures { result ≡ 0 }
     {
         FileSource {
             file: fs::open(rt, path).ok(),
@@ -60,7 +77,7 @@ impl<F: Read + Drop> FileSource<F> {
 }
 
 impl<F: Read + Drop> Source for FileSource<F> {
-    ghost faults = { λ s. s.faults };
+    ghost faults = { λ s. s };
 
     ghost left = { λ s. None };
 
@@ -70,8 +87,7 @@ impl<F: Read + Drop> Source for FileSource<F> {
         {
             return Ok(count);
         }
-        self.faults = self.faults.saturating_add(1);
-        Err(Failed)
+        Err(Failed::count_in(&mut self.faults))
     }
 }
 
@@ -82,9 +98,19 @@ pub struct StdoutSink<'a, P: Print> {
     faults: u64,
 }
 
+impl<'a, P: Print> Model for StdoutSink<'a, P> {
+    ghost use Rattle.std.specs.Prelude.{ℕ};
+
+    ghost Value = { ℕ };
+
+    ghost view = { λ s. s.faults };
+}
+
 impl<'a, P: Print> StdoutSink<'a, P> {
     /// The standard output of this runtime.
-    pub fn new(rt: &'a P) -> Self {
+    pub fn new(rt: &'a P) -> Self
+        ensures { result ≡ 0 }
+    {
         StdoutSink {
             printer: io::writer(rt),
             faults: 0,
@@ -93,16 +119,13 @@ impl<'a, P: Print> StdoutSink<'a, P> {
 }
 
 impl<P: Print> Sink for StdoutSink<'_, P> {
-    ghost faults = { λ s. s.faults };
+    ghost faults = { λ s. s };
 
     ghost written = { λ s. None };
 
     fn write(&mut self, from: &[u8]) -> Result<usize, Failed> {
         match self.printer.write(from) {
-            Ok(0) | Err(_) => {
-                self.faults = self.faults.saturating_add(1);
-                Err(Failed)
-            }
+            Ok(0) | Err(_) => Err(Failed::count_in(&mut self.faults)),
             Ok(count) => Ok(count),
         }
     }
