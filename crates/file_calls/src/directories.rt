@@ -11,7 +11,6 @@ ghost use Rattle.file_calls.specs.Views.{IsHome, AreOpen, view_of};
 
 use crate::Caller;
 use crate::access::{check, label_writes};
-use crate::answer::{denied, number, text};
 use crate::make::make_node;
 use crate::place::{Place, find, find_node};
 use arrayvec::ArrayVec;
@@ -29,16 +28,16 @@ pub fn do_chdir(tree: &Tree, caller: &mut Caller, path: &PathText) -> Decision
 {
     let node = match find_node(tree, caller, path) {
         Ok(node) => node,
-        Err(rule) => return denied(rule),
+        Err(rule) => return Decision::denied(rule),
     };
     if !tree.is_dir(node) {
-        return denied(Rule::NotDir);
+        return Decision::denied(Rule::NotDir);
     }
     if let Err(rule) = check(tree, caller, node, false, false, true) {
-        return denied(rule);
+        return Decision::denied(rule);
     }
     caller.directory = node;
-    number(0)
+    Decision::nothing()
 }
 
 /// The names of a directory from a number on, as a text.
@@ -62,15 +61,15 @@ pub fn do_list(tree: &Tree, caller: &Caller, path: &PathText, from: u16) -> Deci
 {
     let node = match find_node(tree, caller, path) {
         Ok(node) => node,
-        Err(rule) => return denied(rule),
+        Err(rule) => return Decision::denied(rule),
     };
     if !tree.is_dir(node) {
-        return denied(Rule::NotDir);
+        return Decision::denied(Rule::NotDir);
     }
     if let Err(rule) = check(tree, caller, node, true, false, false) {
-        return denied(rule);
+        return Decision::denied(rule);
     }
-    text(names(tree, node, from))
+    Decision::text(names(tree, node, from))
 }
 
 /// mkdir(2): makes a directory with a mode of at most 777 in octal, as `make_node` does. Answers 0.
@@ -87,14 +86,14 @@ pub fn do_mkdir(tree: &mut Tree, caller: &Caller, path: &PathText, mode: u16) ->
 {
     let place = match find(tree, caller, path) {
         Ok(place) => place,
-        Err(rule) => return denied(rule),
+        Err(rule) => return Decision::denied(rule),
     };
     let Place::Absent { dir, name } = place else {
-        return denied(Rule::Exists);
+        return Decision::denied(Rule::Exists);
     };
     match make_node(tree, caller, dir, &name, Kind::Dir, mode) {
-        Ok(_) => number(0),
-        Err(rule) => denied(rule),
+        Ok(_) => Decision::nothing(),
+        Err(rule) => Decision::denied(rule),
     }
 }
 
@@ -112,26 +111,26 @@ pub fn do_rmdir(tree: &mut Tree, caller: &Caller, path: &PathText) -> Decision
 {
     let node = match find_node(tree, caller, path) {
         Ok(node) => node,
-        Err(rule) => return denied(rule),
+        Err(rule) => return Decision::denied(rule),
     };
     if !tree.is_dir(node) {
-        return denied(Rule::NotDir);
+        return Decision::denied(Rule::NotDir);
     }
     if tree.is_root(node) {
-        return denied(Rule::InUse);
+        return Decision::denied(Rule::InUse);
     }
     if let Err(rule) = check(tree, caller, tree.parent(node), false, true, false) {
-        return denied(rule);
+        return Decision::denied(rule);
     }
     if !label_writes(tree, caller, node) {
-        return denied(Rule::LabelWrite);
+        return Decision::denied(Rule::LabelWrite);
     }
     if tree.has_children(node) {
-        return denied(Rule::NotEmpty);
+        return Decision::denied(Rule::NotEmpty);
     }
     if node == caller.directory {
-        return denied(Rule::InUse);
+        return Decision::denied(Rule::InUse);
     }
     tree.remove(node);
-    number(0)
+    Decision::nothing()
 }

@@ -12,7 +12,6 @@ ghost use Rattle.file_calls.specs.declared.descriptors.OpenFile.{OpenFile};
 ghost use Rattle.file_calls.specs.Views.{seen_caller, view_of};
 
 use crate::Caller;
-use crate::answer::text;
 use acl_core::MOST_GROUPS;
 use arrayvec::ArrayVec;
 use call_words::{Decision, TEXT_BYTES, TextBuf, push_bytes, push_number};
@@ -84,5 +83,5 @@ fn ident(caller: &Caller) -> TextBuf
 pub fn do_ident(caller: &Caller) -> Decision
     ensures { (nodes : List (Option NodeAt)) (files : List (Option OpenFile)) (line : Queues) (recheck : Bool) → Does (view_of nodes files caller.now line recheck) (view_of nodes files caller.now line recheck) result (ident_row (view_of nodes files caller.now line recheck)) }
 {
-    text(ident(caller))
+    Decision::text(ident(caller))
 }

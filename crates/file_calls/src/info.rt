@@ -11,7 +11,6 @@ ghost use Rattle.file_calls.specs.Views.{IsHome, view_of};
 
 use crate::Caller;
 use crate::access::label_reads;
-use crate::answer::{denied, text};
 use crate::place::find_node;
 use arrayvec::ArrayVec;
 use call_words::{Decision, Kind, Node, PathText, Rule, TextBuf};
@@ -105,10 +104,10 @@ pub fn do_info(tree: &Tree, caller: &Caller, path: &PathText) -> Decision
 {
     let node = match find_node(tree, caller, path) {
         Ok(node) => node,
-        Err(rule) => return denied(rule),
+        Err(rule) => return Decision::denied(rule),
     };
     if !label_reads(tree, caller, node) {
-        return denied(Rule::LabelRead);
+        return Decision::denied(Rule::LabelRead);
     }
-    text(info(tree, node))
+    Decision::text(info(tree, node))
 }

@@ -10,7 +10,6 @@ ghost use Rattle.file_calls.specs.Views.{IsHome, AreOpen, view_of};
 
 use crate::Caller;
 use crate::access::{label_reads, owns};
-use crate::answer::{denied, number, text};
 use crate::changes::set_element;
 use crate::place::find_node;
 use arrayvec::ArrayVec;
@@ -39,16 +38,16 @@ pub fn do_setlabel(tree: &mut Tree, caller: &Caller, path: &PathText, element: &
 {
     let node = match find_node(tree, caller, path) {
         Ok(node) => node,
-        Err(rule) => return denied(rule),
+        Err(rule) => return Decision::denied(rule),
     };
     if !owns(tree, caller, node) {
-        return denied(Rule::Owner);
+        return Decision::denied(Rule::Owner);
     }
     if !relabels(tree, caller, node, element) {
-        return denied(Rule::Relabel);
+        return Decision::denied(Rule::Relabel);
     }
     set_element(tree, node, element);
-    number(0)
+    Decision::nothing()
 }
 
 /// The text of a node's label. The node is live.
@@ -73,10 +72,10 @@ pub fn do_getlabel(tree: &Tree, caller: &Caller, path: &PathText) -> Decision
 {
     let node = match find_node(tree, caller, path) {
         Ok(node) => node,
-        Err(rule) => return denied(rule),
+        Err(rule) => return Decision::denied(rule),
     };
     if !label_reads(tree, caller, node) {
-        return denied(Rule::LabelRead);
+        return Decision::denied(Rule::LabelRead);
     }
-    text(label(tree, node))
+    Decision::text(label(tree, node))
 }

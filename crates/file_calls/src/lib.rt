@@ -7,7 +7,6 @@
 #![tactic(auto)]
 
 mod access;
-mod answer;
 mod caller;
 mod changes;
 mod descriptors;

@@ -12,7 +12,6 @@ ghost use Rattle.file_calls.specs.Views.{IsHome, AreOpen, view_of};
 
 use crate::Caller;
 use crate::access::{label_reads, label_writes, owns};
-use crate::answer::{denied, number, text};
 use crate::changes::set_list;
 use crate::place::find_node;
 use acl_core::{Acl, AclFault, Entry, print_list};
@@ -64,23 +63,23 @@ pub fn do_setacl(
 {
     let node = match find_node(tree, caller, path) {
         Ok(node) => node,
-        Err(rule) => return denied(rule),
+        Err(rule) => return Decision::denied(rule),
     };
     if !label_writes(tree, caller, node) {
-        return denied(Rule::LabelWrite);
+        return Decision::denied(Rule::LabelWrite);
     }
     if !owns(tree, caller, node) {
-        return denied(Rule::Owner);
+        return Decision::denied(Rule::Owner);
     }
     if lacks_list(tree, node, which) {
-        return denied(Rule::NotDir);
+        return Decision::denied(Rule::NotDir);
     }
     let made = Acl::new(entries.as_slice());
     if is_bad(which, entries.as_slice(), &made) {
-        return denied(Rule::AclBad);
+        return Decision::denied(Rule::AclBad);
     }
     set_list(tree, node, which, made);
-    number(0)
+    Decision::nothing()
 }
 
 /// The text of a list of a node. The node is live.
@@ -112,13 +111,13 @@ pub fn do_getacl(tree: &Tree, caller: &Caller, path: &PathText, which: WhichList
 {
     let node = match find_node(tree, caller, path) {
         Ok(node) => node,
-        Err(rule) => return denied(rule),
+        Err(rule) => return Decision::denied(rule),
     };
     if !label_reads(tree, caller, node) {
-        return denied(Rule::LabelRead);
+        return Decision::denied(Rule::LabelRead);
     }
     if lacks_list(tree, node, which) {
-        return denied(Rule::NotDir);
+        return Decision::denied(Rule::NotDir);
     }
-    text(list(tree, node, which))
+    Decision::text(list(tree, node, which))
 }

@@ -8,7 +8,6 @@ ghost use Rattle.file_calls.specs.Views.{IsHome, AreOpen, view_of};
 
 use crate::Caller;
 use crate::access::{is_superuser, label_writes, owns};
-use crate::answer::{denied, number};
 use crate::changes::{set_mode, set_owner};
 use crate::place::find_node;
 use call_words::{Decision, PathText, Rule};
@@ -27,16 +26,16 @@ pub fn do_chmod(tree: &mut Tree, caller: &Caller, path: &PathText, mode: u16) ->
 {
     let node = match find_node(tree, caller, path) {
         Ok(node) => node,
-        Err(rule) => return denied(rule),
+        Err(rule) => return Decision::denied(rule),
     };
     if !label_writes(tree, caller, node) {
-        return denied(Rule::LabelWrite);
+        return Decision::denied(Rule::LabelWrite);
     }
     if !owns(tree, caller, node) {
-        return denied(Rule::Owner);
+        return Decision::denied(Rule::Owner);
     }
     set_mode(tree, node, mode);
-    number(0)
+    Decision::nothing()
 }
 
 /// chown(2): gives the node that a path leads to to a user and a group. Answers 0.
@@ -51,14 +50,14 @@ pub fn do_chown(tree: &mut Tree, caller: &Caller, path: &PathText, uid: u32, gid
 {
     let node = match find_node(tree, caller, path) {
         Ok(node) => node,
-        Err(rule) => return denied(rule),
+        Err(rule) => return Decision::denied(rule),
     };
     if !label_writes(tree, caller, node) {
-        return denied(Rule::LabelWrite);
+        return Decision::denied(Rule::LabelWrite);
     }
     if !is_superuser(caller) {
-        return denied(Rule::Super);
+        return Decision::denied(Rule::Super);
     }
     set_owner(tree, node, uid, gid);
-    number(0)
+    Decision::nothing()
 }

@@ -14,7 +14,6 @@ ghost use Rattle.file_calls.specs.OpenFiles.{file_of, tty_of};
 ghost use Rattle.file_calls.specs.Views.{seen_file, view_of, IsHome, AreOpen};
 
 use crate::access::{label_reads, label_writes};
-use crate::answer::{bytes, denied, number};
 use crate::{Caller, Descriptors, OpenFile};
 use call_words::{Decision, Node, PIECE_BYTES, Piece, Rule};
 use vnode_tree::{NoMemory, Tree, WriteFault};
@@ -58,22 +57,22 @@ pub fn readable_file(
         (λ d. Does v v d (read_row v fd max)) }
 {
     if usize::from(max) > PIECE_BYTES {
-        return Err(denied(Rule::Size));
+        return Err(Decision::denied(Rule::Size));
     }
     let Some(file) = fds.get(fd) else {
-        return Err(denied(Rule::BadFd));
+        return Err(Decision::denied(Rule::BadFd));
     };
     if !file.readable {
-        return Err(denied(Rule::FdMode));
+        return Err(Decision::denied(Rule::FdMode));
     }
     if file.dead {
-        return Err(bytes(Piece::empty()));
+        return Err(Decision::bytes(Piece::empty()));
     }
     if may_not_read(tree, caller, recheck, file.node) {
-        return Err(denied(Rule::LabelRead));
+        return Err(Decision::denied(Rule::LabelRead));
     }
     if max == 0 {
-        return Err(bytes(Piece::empty()));
+        return Err(Decision::bytes(Piece::empty()));
     }
     Ok(file)
 }
@@ -99,19 +98,19 @@ pub fn writable_file(
         (λ d. Does v v d (write_row v fd bytes.now)) }
 {
     let Some(file) = fds.get(fd) else {
-        return Err(denied(Rule::BadFd));
+        return Err(Decision::denied(Rule::BadFd));
     };
     if !file.writable {
-        return Err(denied(Rule::FdMode));
+        return Err(Decision::denied(Rule::FdMode));
     }
     if file.dead {
-        return Err(denied(Rule::Dead));
+        return Err(Decision::denied(Rule::Dead));
     }
     if may_not_write(tree, caller, recheck, file.node) {
-        return Err(denied(Rule::LabelWrite));
+        return Err(Decision::denied(Rule::LabelWrite));
     }
     if bytes.is_empty() {
-        return Err(number(0));
+        return Err(Decision::nothing());
     }
     Ok(file)
 }
@@ -139,7 +138,7 @@ pub fn do_read(
     };
     let left = tree.size(file.node).saturating_sub(file.offset);
     fds.set_offset(fd, file.offset + left.min(u32::from(max)));
-    bytes(tree.read(file.node, file.offset, max))
+    Decision::bytes(tree.read(file.node, file.offset, max))
 }
 
 /// Where a write puts its bytes: at the end of a file that was opened to append, and else at its offset. The file's node is
@@ -190,9 +189,9 @@ pub fn do_write(
         Ok(()) => {
             let count = bytes.len() as u32;
             fds.set_offset(fd, place + count);
-            Ok(number(count))
+            Ok(Decision::number(count))
         }
-        Err(WriteFault::Space) => Ok(denied(Rule::FileSpace)),
+        Err(WriteFault::Space) => Ok(Decision::denied(Rule::FileSpace)),
         Err(WriteFault::NoMemory) => Err(NoMemory),
     }
 }

@@ -15,7 +15,6 @@ ghost use Rattle.file_calls.specs.Opens.{new_file, cut, fd_room};
 ghost use Rattle.file_calls.specs.Views.{view_of, IsHome, AreOpen, kind_for, kind_of};
 
 use crate::access::check;
-use crate::answer::{denied, number};
 use crate::make::make_node;
 use crate::place::{Place, find};
 use crate::{Caller, Descriptors, OpenFile};
@@ -124,13 +123,13 @@ fn open_found(
 {
     let tty = match may_open(tree, caller, node, opening) {
         Ok(tty) => tty,
-        Err(rule) => return denied(rule),
+        Err(rule) => return Decision::denied(rule),
     };
     let Some(fd) = fds.open(opened_for(node, tty, opening)) else {
-        return denied(Rule::FdRoom);
+        return Decision::denied(Rule::FdRoom);
     };
     truncate(tree, node, opening.flags);
-    number(u32::from(fd))
+    Decision::number(u32::from(fd))
 }
 
 /// An open of a name that a directory does not have.
@@ -156,17 +155,17 @@ fn open_absent(
         Does old (view_of tree.new fds.new caller.now line recheck) result (open_at old opening.access opening.flags mode (absent (path_of tree.old dir) name.now)) }
 {
     if !opening.flags.create {
-        return denied(Rule::NoEntry);
+        return Decision::denied(Rule::NoEntry);
     }
     let node = match make_node(tree, caller, dir, name, Kind::File, mode) {
         Ok(node) => node,
-        Err(rule) => return denied(rule),
+        Err(rule) => return Decision::denied(rule),
     };
     let Some(fd) = fds.open(opened_for(node, None, opening)) else {
         tree.remove(node);
-        return denied(Rule::FdRoom);
+        return Decision::denied(Rule::FdRoom);
     };
-    number(u32::from(fd))
+    Decision::number(u32::from(fd))
 }
 
 /// open(2): opens what a path leads to on the lowest free number, and answers that number. An absent file is created with
@@ -198,11 +197,11 @@ pub fn do_open(
         Does old (view_of tree.new fds.new caller.now line recheck) result (open_row old path.now access flags mode) }
 {
     if flags_clash(access, flags) {
-        return denied(Rule::Flags);
+        return Decision::denied(Rule::Flags);
     }
     let place = match find(tree, caller, path) {
         Ok(place) => place,
-        Err(rule) => return denied(rule),
+        Err(rule) => return Decision::denied(rule),
     };
     let opening = Opening { access, flags };
     match place {
@@ -222,8 +221,8 @@ pub fn do_close(fds: &mut Descriptors, fd: u8) -> Decision
     ensures open_files { (nodes : List (Option NodeAt)) → AreOpen nodes fds.old → AreOpen nodes fds.new }
 {
     if fds.get(fd).is_none() {
-        return denied(Rule::BadFd);
+        return Decision::denied(Rule::BadFd);
     }
     fds.close(fd);
-    number(0)
+    Decision::nothing()
 }

@@ -9,7 +9,6 @@ ghost use Rattle.file_calls.specs.Views.{view_of};
 
 use crate::Caller;
 use crate::access::is_superuser;
-use crate::answer::{denied, number};
 use acl_core::Cred;
 use call_words::{Decision, Rule};
 use label_core::{Subject, may_become};
@@ -22,10 +21,10 @@ pub fn do_setcred(caller: &mut Caller, cred: &Cred) -> Decision
     ensures does { (nodes : List (Option NodeAt)) (files : List (Option OpenFile)) (line : Queues) (recheck : Bool) → Does (view_of nodes files caller.old line recheck) (view_of nodes files caller.new line recheck) result (setcred_row (view_of nodes files caller.old line recheck) cred.now) }
 {
     if !is_superuser(caller) {
-        return denied(Rule::Super);
+        return Decision::denied(Rule::Super);
     }
     caller.cred = cred.copy();
-    number(0)
+    Decision::nothing()
 }
 
 /// The process takes a label (mac_set_proc(3)). Answers 0.
@@ -37,10 +36,10 @@ pub fn do_setproclabel(caller: &mut Caller, subject: &Subject) -> Decision
     ensures does { (nodes : List (Option NodeAt)) (files : List (Option OpenFile)) (line : Queues) (recheck : Bool) → Does (view_of nodes files caller.old line recheck) (view_of nodes files caller.new line recheck) result (setproclabel_row (view_of nodes files caller.old line recheck) subject.now) }
 {
     if !may_become(&caller.label, subject) {
-        return denied(Rule::Proclabel);
+        return Decision::denied(Rule::Proclabel);
     }
     caller.label = subject.copy();
-    number(0)
+    Decision::nothing()
 }
 
 /// umask(2): the bits of a mode that new nodes do not get from now on. Answers those before.
@@ -50,5 +49,5 @@ pub fn do_umask(caller: &mut Caller, mode: u16) -> Decision
 {
     let before = caller.umask;
     caller.umask = mode;
-    number(u32::from(before))
+    Decision::number(u32::from(before))
 }

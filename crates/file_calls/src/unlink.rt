@@ -6,7 +6,6 @@ ghost use Rattle.machine_model.specs.PathCalls.{unlink_row};
 ghost use Rattle.file_calls.specs.Views.{IsHome, AreOpen, view_of};
 
 use crate::access::{check, label_writes};
-use crate::answer::{denied, number};
 use crate::place::find_node;
 use crate::{Caller, Descriptors};
 use call_words::{Decision, Kind, PathText, Rule};
@@ -27,22 +26,22 @@ pub fn do_unlink(tree: &mut Tree, files: &Descriptors, caller: &Caller, path: &P
 {
     let node = match find_node(tree, caller, path) {
         Ok(node) => node,
-        Err(rule) => return denied(rule),
+        Err(rule) => return Decision::denied(rule),
     };
     match tree.kind(node) {
         Kind::File => {}
-        Kind::Dir => return denied(Rule::IsDir),
-        Kind::Line(_) | Kind::Tty => return denied(Rule::Device),
+        Kind::Dir => return Decision::denied(Rule::IsDir),
+        Kind::Line(_) | Kind::Tty => return Decision::denied(Rule::Device),
     }
     if let Err(rule) = check(tree, caller, tree.parent(node), false, true, false) {
-        return denied(rule);
+        return Decision::denied(rule);
     }
     if !label_writes(tree, caller, node) {
-        return denied(Rule::LabelWrite);
+        return Decision::denied(Rule::LabelWrite);
     }
     if files.refers_to(node) {
-        return denied(Rule::InUse);
+        return Decision::denied(Rule::InUse);
     }
     tree.remove(node);
-    number(0)
+    Decision::nothing()
 }

@@ -10,7 +10,7 @@ ghost use Rattle.machine_model.specs.View.{View, view};
 ghost use Rattle.machine_model.specs.Rows.{Does, first};
 ghost use Rattle.machine_model.specs.Uses.{use_of};
 ghost use Rattle.machine_model.specs.FileCalls.{open_row};
-ghost use Rattle.machine_model.specs.Step.{call_row, row, step, view_after, answer_to, gives_a_byte, wakes, wants_memory, may_want_memory, MayBeAsked};
+ghost use Rattle.machine_model.specs.Step.{call_row, row, step, view_after, answer_to, gives_a_byte, wakes, is_built_call, wants_memory, may_want_memory, MayBeAsked};
 ghost use Rattle.machine_model.specs.Stands.{Stands};
 
 use crate::boot::first_caller;
@@ -84,7 +84,8 @@ impl Kernel {
     }
 
     fn do_call(&mut self, call: &Call) -> Result<Decision, NoMemory>
-        requires { HasFitMode call.now }
+        requires mode { HasFitMode call.now }
+        requires built { is_built_call call.now ≡ true }
         ensures does { IfOk result (λ decision. Does self.old self.new decision (call_row self.old call.now)) }
         ensures nothing { OnErr result (self.new ≡ self.old) }
         ensures memory { OnErr result (wants_memory self.old (use_of call.now) ≡ true) }
@@ -125,6 +126,7 @@ impl Kernel {
             Call::Umask { mode } => Ok(do_umask(&mut self.caller, *mode)),
             Call::Ident => Ok(do_ident(&self.caller)),
             Call::Revoke { path } => Ok(self.do_revoke(path)),
+            _ => unreachable!(),
         }
     }
 
@@ -144,6 +146,7 @@ impl Kernel {
             }
             Event::Byte { byte, .. } => Ok(self.do_byte(*byte)),
             Event::Take { max, .. } => Ok(self.do_take(*max)),
+            _ => unreachable!(),
         }
     }
 
@@ -157,7 +160,7 @@ impl Kernel {
     /// Writes down who can go on.
     #[tactic(auto, unfolding(machine_model::specs::Step::wakes))]
     fn list_wakes(&self, list: &mut Wakes)
-        ensures { listed list.new ≡ wakes self.now }
+        ensures { wake_list list.new ≡ wakes self.now }
     {
         *list = Wakes::none();
         if self.has_output() {
@@ -175,7 +178,7 @@ impl Kernel {
         // By what calls see.
         ensures seen { OnOk result (self.new ≡ view_after self.old event.now) }
         ensures answer { IfOk result (λ decision. decision ≡ answer_to self.old event.now) }
-        ensures wakes { OnOk result (listed list.new ≡ wakes self.new) }
+        ensures wakes { OnOk result (wake_list list.new ≡ wakes self.new) }
         // By the state, with its names, tags and positions.
         ensures stands { IfOk result (λ decision. (n : ℕ) (s : State) → Stands self.old n s →
             Stands self.new (n + 1) (step s (n + 1) event.now).0 × (decision ≡ (step s (n + 1) event.now).1)) }

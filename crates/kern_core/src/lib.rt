@@ -4,7 +4,6 @@
 //! termios (termios(4)). The calls on files and paths are those of the crate below; what is done at the line stands here.
 #![tactic(auto)]
 
-mod answer;
 mod boot;
 mod kernel;
 mod line;

@@ -8,7 +8,6 @@ ghost use Rattle.machine_model.specs.Step.{is_regular};
 ghost use Rattle.machine_model.specs.FileCalls.{file_at, close_row, read_row, read_of, write_row, write_of};
 ghost use Rattle.machine_model.specs.LineCalls.{revoke_row, byte_row, take_row};
 
-use crate::answer::{bytes, denied, number};
 use crate::kernel::Kernel;
 use call_words::{Decision, PIECE_BYTES, PathText, Piece, Rule};
 use file_calls::{Descriptors, NoMemory, OpenFile, may_revoke, readable_file, writable_file};
@@ -29,14 +28,14 @@ impl Kernel {
             return file_calls::do_close(&mut self.files, fd);
         }
         let Some(file) = self.files.get(fd) else {
-            return denied(Rule::BadFd);
+            return Decision::denied(Rule::BadFd);
         };
         self.files.close(fd);
         if !was_last_live(&self.files, file) {
-            return number(0);
+            return Decision::nothing();
         }
         self.line.empty();
-        number(0)
+        Decision::nothing()
     }
 
     /// A read of the line, whose file may be read. Denied by `NotReady`, where the input is empty.
@@ -45,9 +44,9 @@ impl Kernel {
         ensures { (fd tty : ℕ) (f : SeenFile) → Does self.old self.new result (read_of self.old fd max f (Some tty)) }
     {
         if self.line.has_no_input() {
-            return denied(Rule::NotReady);
+            return Decision::denied(Rule::NotReady);
         }
-        bytes(self.line.take_input(max))
+        Decision::bytes(self.line.take_input(max))
     }
 
     /// read(2). A dead file gives no bytes, whatever its line holds.
@@ -75,9 +74,9 @@ impl Kernel {
         ensures { (fd tty : ℕ) (f : SeenFile) → Does self.old self.new result (write_of self.old fd written.now f (Some tty)) }
     {
         if self.line.output_is_full() {
-            return denied(Rule::NotReady);
+            return Decision::denied(Rule::NotReady);
         }
-        number(self.line.add_output(written) as u32)
+        Decision::number(self.line.add_output(written) as u32)
     }
 
     /// write(2). Want of memory comes only at a regular file, and then nothing has changed.
@@ -117,11 +116,11 @@ impl Kernel {
         ensures { Does self.old self.new result (revoke_row self.old path.now) }
     {
         if let Err(rule) = may_revoke(&self.tree, &self.caller, path) {
-            return denied(rule);
+            return Decision::denied(rule);
         }
         self.files.kill_all();
         self.line.empty();
-        number(0)
+        Decision::nothing()
     }
 
     /// A byte arrives at line 7.

@@ -46,7 +46,7 @@ line a ; < b > 'c -> at 12
 /// Puts a word behind the text, in brackets.
 fn show_word(word: &Word, text: &mut Vec<u8>) -> Result<(), NoMemory> {
     text.push(b'[')?;
-    text.extend_from_slice(word.as_bytes())?;
+    text.extend_from_slice(word.as_slice())?;
     text.push(b']')?;
     Ok(())
 }

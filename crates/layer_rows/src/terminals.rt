@@ -2,7 +2,7 @@
 
 use arrayvec::ArrayVec;
 use std::alloc::Global;
-use termios_core::{LINE_ROOM, print_termios, read_termios};
+use termios_core::{TEXT_ROOM, print_termios, read_termios};
 
 /// Texts, and what is printed of the settings that they spell, if any.
 pub const ROWS: &str = "
@@ -54,7 +54,7 @@ termios -:0+0+0+0+0+0+0+0+0+0+0: -> none
 pub fn told(alloc: Global, text: &str) -> Option<Vec<u8>> {
     match read_termios(text.as_bytes()) {
         Some(termios) => {
-            let mut out: ArrayVec<u8, LINE_ROOM> = ArrayVec::new();
+            let mut out: ArrayVec<u8, TEXT_ROOM> = ArrayVec::new();
             print_termios(&termios, &mut out);
             Vec::from_slice(alloc, out.as_slice()).ok()
         }

@@ -14,7 +14,7 @@ use Rattle.acl_core.specs.declared.valid.AclFault.TheVariants.{TooMany, Twice}
 use Rattle.acl_core.specs.Acl.{acl_of}
 use Rattle.acl_core.specs.Perm.{perm_of}
 use Rattle.acl_core.specs.Deciding.{grants, has_exec}
-use Rattle.acl_core.specs.Mode.{minimal_list, mode_of, with_mode, inherited}
+use Rattle.acl_core.specs.Mode.{minimal_list, mode_of, with_mode, inherited_list}
 use Rattle.access_rule.specs.declared.Attrs.{Attrs}
 use Rattle.access_rule.specs.Access.{refusal}
 use Rattle.sys_types.specs.declared.rules.Rule.{Rule}
@@ -120,12 +120,12 @@ mode_is_put_into_the_mask : with_mode (with_user 6 7 5 2) (mode 4 2 1) ≡ with_
 unfolding with_mode
 mode_is_put_into_the_mask = refl
 
-list_is_handed_down : inherited (digits_of 6 4 0) (mode 4 2 6) ≡ digits_of 4 0 0
-unfolding inherited
+list_is_handed_down : inherited_list (digits_of 6 4 0) (mode 4 2 6) ≡ digits_of 4 0 0
+unfolding inherited_list
 list_is_handed_down = refl
 
-list_with_a_mask_is_handed_down : inherited (with_user 6 7 5 2) (mode 4 6 6) ≡ with_user 4 7 4 2
-unfolding inherited
+list_with_a_mask_is_handed_down : inherited_list (with_user 6 7 5 2) (mode 4 6 6) ≡ with_user 4 7 4 2
+unfolding inherited_list
 list_with_a_mask_is_handed_down = refl
 
 -- A list has at most 64 entries.

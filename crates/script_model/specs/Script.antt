@@ -1,19 +1,24 @@
 -- What a script writes, and the status with which it ends.
-use Rattle.std.specs.Prelude.{ℕ, ◌+◌, List, [], ◌∷◌, ◌++◌, Option, Some, None, Result, Ok, Err, nat_lt, if◌then◌else◌, length, map, take, codes}
+use Rattle.std.specs.Prelude.{ℕ, ◌+◌, Bool, ◌&&◌, is_none, List, [], ◌∷◌, ◌++◌, Option, Some, None, Result, Ok, Err, nat_lt, if◌then◌else◌, length, map, take, codes}
 use Rattle.std.specs.Fmt.{decimal}
 use Rattle.sys_types.specs.declared.limits.TheConstants.{TRAIL_EVENTS}
 use Rattle.call_words.specs.declared.event.Event.{Event}
 use Rattle.machine_model.specs.State.{State, boot}
 use Rattle.machine_model.specs.View.{View, view}
-use Rattle.machine_model.specs.Step.{step, wakes, may_want_memory}
+use Rattle.machine_model.specs.Rows.{first}
+use Rattle.machine_model.specs.Step.{row, step, wakes, may_want_memory}
 use Rattle.script_model.specs.Reading.{Asked, reads}
 use Rattle.script_text.specs.Answers.{answer_line}
 use Rattle.user_db.specs.declared.boot.Boot.{Boot}
 use Rattle.user_db.specs.Boot.{boot_of}
 
--- memory may run out right before an event that may want it
+-- Memory may run out right before an event that may want it and of which no line of the row holds: a write to a regular file that
+-- nothing denies.
+abbrev pub finds_no_memory : View → Event → Bool
+finds_no_memory v e = may_want_memory v e && is_none (first (row v e).lines)
+
 abbrev pub stop_before : View → Event → List (List ℕ)
-stop_before v e = if may_want_memory v e then [] ∷ [] else []
+stop_before v e = if finds_no_memory v e then [] ∷ [] else []
 
 -- the answer lines of events, of which the first is at position p
 abbrev pub answers_from : State → ℕ → List Event → List ℕ

@@ -12,8 +12,8 @@ use Rattle.hex.proofs.HexLemmas.{decode_of-encode_lower, length-encode_with}
 use Rattle.call_words.specs.declared.open.Access.{Access}
 use Rattle.call_words.specs.declared.open.Access.TheVariants as access
 use Rattle.call_words.specs.declared.open.OpenFlags.{OpenFlags}
-use Rattle.acl_core.proofs.Whole.{read_again}
-use Rattle.label_core.proofs.TextLaws.{element_of-element_text, subject_of-subject_text}
+use Rattle.acl_core.proofs.ListTextLemmas.{read_again}
+use Rattle.label_core.proofs.TextLemmas.{element_of-element_text, subject_of-subject_text}
 use Rattle.call_words.specs.declared.attr.WhichList.{WhichList}
 use Rattle.call_words.specs.declared.attr.WhichList.TheVariants as which
 use Rattle.script_text.specs.Rights.{which_of, which_word}

@@ -4,7 +4,7 @@ use Rattle.std.specs.Prelude.{ℕ, ◌-◌, Bool, true, false, List, [], ◌∷�
 use Rattle.label_core.specs.declared.subject.Subject.{Subject}
 use Rattle.acl_core.specs.declared.cred.Cred.{Cred}
 use Rattle.acl_core.specs.declared.entry.Entry.{Entry}
-use Rattle.acl_core.specs.Mode.{minimal_list, inherited}
+use Rattle.acl_core.specs.Mode.{minimal_list, inherited_list}
 use Rattle.sys_types.specs.declared.node.Kind.{Kind}
 use Rattle.sys_types.specs.declared.rules.Rule.{Rule}
 use Rattle.sys_types.specs.declared.rules.Rule.TheVariants as rule
@@ -18,7 +18,7 @@ without mode umask = bit_and mode (65535 - umask)
 -- the list of a new node: what the directory's default list hands down, or else the mode's without the bits of the umask
 abbrev pub new_list : Option (List Entry) → ℕ → ℕ → List Entry
 new_list None umask mode = minimal_list (without mode umask)
-new_list (Some default) umask mode = inherited default mode
+new_list (Some default) umask mode = inherited_list default mode
 
 -- a new directory takes the default list too
 abbrev pub new_default : Kind → Option (List Entry) → Option (List Entry)

@@ -7,10 +7,10 @@ use Rattle.call_words.specs.declared.event.Event.{Event}
 use Rattle.call_words.specs.declared.event.Decision.{Decision}
 use Rattle.call_words.specs.Events.{WakeList}
 use Rattle.machine_model.specs.View.{View}
-use Rattle.machine_model.specs.Step.{view_after, answer_to, wakes, may_want_memory}
+use Rattle.machine_model.specs.Step.{view_after, answer_to, wakes}
 use Rattle.script_model.specs.Reading.{Asked}
 use Rattle.script_text.specs.Answers.{answer_line}
-use Rattle.script_model.specs.Script.{Output, full_end}
+use Rattle.script_model.specs.Script.{Output, finds_no_memory, full_end}
 use Rattle.script_model.specs.Seen.{out_seen, joined}
 use Rattle.script_model.proofs.SeenRuns.{out_seen-full, out_seen-event}
 use Rattle.tty_host.specs.declared.run.Stop.{Stop}
@@ -61,7 +61,7 @@ event-next-failed v v' room e es bad a b y line some h began =
     goes-at (Err Failed) a b _ (joined v e line more) y (next v v' room e es bad line some h) (goes-failed a b (joined v e line more) y (began-joined a b line more.bytes began))
 
 -- where memory ran out at an event for which there is room, nothing of it was written
-pub event-memory : (v : View) (room : ℕ) (e : Event) (es : List Event) (bad : Option ℕ) (a : Option (List ℕ)) (y : Output) → 0 < room → may_want_memory v e ≡ true → Goes (Err NoMemory) a (out_seen v room (asked (e ∷ es) bad)) a y
+pub event-memory : (v : View) (room : ℕ) (e : Event) (es : List Event) (bad : Option ℕ) (a : Option (List ℕ)) (y : Output) → 0 < room → finds_no_memory v e ≡ true → Goes (Err NoMemory) a (out_seen v room (asked (e ∷ es) bad)) a y
 event-memory v zero e es bad a y some wants = absurd (omega arith)
 event-memory v (suc room) e es bad a y some wants =
     let line = answer_line e (answer_to v e) (wakes (view_after v e)) in

@@ -4,8 +4,7 @@ use Rattle.std.specs.Prelude.{if◌then◌else◌, true}
 use Rattle.edge_io.specs.Outside.{Rose, Appended}
 use Rattle.call_words.specs.declared.event.Event.{Event}
 use Rattle.machine_model.specs.View.{View}
-use Rattle.machine_model.specs.Step.{may_want_memory}
-use Rattle.script_model.specs.Script.{Output, stop_before}
+use Rattle.script_model.specs.Script.{Output, finds_no_memory, stop_before}
 use Rattle.script_model.specs.Seen.{joined}
 use Rattle.tty_host.specs.declared.run.Stop.{Stop}
 use Rattle.tty_host.specs.declared.run.Stop.TheVariants.{BadLine, Full, Failed, NoMemory}
@@ -116,7 +115,7 @@ unfolding Goes
 goes-failed a b x y h = h
 
 -- where memory ran out before the event that comes next
-pub goes-memory : (a : Option (List ℕ)) (v : View) (e : Event) (line : List ℕ) (more y : Output) → may_want_memory v e ≡ true → Goes (Err NoMemory) a (joined v e line more) a y
+pub goes-memory : (a : Option (List ℕ)) (v : View) (e : Event) (line : List ℕ) (more y : Output) → finds_no_memory v e ≡ true → Goes (Err NoMemory) a (joined v e line more) a y
 unfolding Goes
 goes-memory a v e line more y wants = record {
   front = [];

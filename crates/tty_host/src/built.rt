@@ -20,8 +20,28 @@ fn is_built_call(call: &Call) -> bool
     ensures { result ≡ is_built_call call.now }
 {
     match call {
+        Call::Open { .. }
+        | Call::Close { .. }
+        | Call::Read { .. }
+        | Call::Write { .. }
+        | Call::Chdir { .. }
+        | Call::Mkdir { .. }
+        | Call::Rmdir { .. }
+        | Call::Unlink { .. }
+        | Call::List { .. }
+        | Call::Info { .. }
+        | Call::Chmod { .. }
+        | Call::Chown { .. }
+        | Call::SetAcl { .. }
+        | Call::GetAcl { .. }
+        | Call::SetLabel { .. }
+        | Call::GetLabel { .. }
+        | Call::SetCred { .. }
+        | Call::SetProcLabel { .. }
+        | Call::Umask { .. }
+        | Call::Ident => true,
         Call::Revoke { path } => is_tty7(path),
-        _ => true,
+        _ => false,
     }
 }
 
@@ -32,6 +52,7 @@ fn is_built(event: &Event) -> bool
     match event {
         Event::Call { call, .. } => is_built_call(call),
         Event::Byte { line, .. } | Event::Take { line, .. } => *line == RAW_LINE,
+        Event::Again { .. } | Event::Carrier { .. } | Event::Ended { .. } => false,
     }
 }
 

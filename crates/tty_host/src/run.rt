@@ -63,6 +63,7 @@ pub fn write_all<K: Sink>(out: &mut K, bytes: &[u8]) -> Result<(), Failed>
     ensures ok { OnOk result (Appended (K.written out.old) (K.written out.new) bytes.now) }
     ensures began { OnErr result (Began (K.written out.old) bytes.now (K.written out.new)) }
     ensures failed { OnErr result (Rose (K.faults out.old) (K.faults out.new)) }
+    ensures no_fault { OnOk result (K.faults out.new ≡ K.faults out.old) }
     ensures grows { K.faults out.old ≤ K.faults out.new }
 {
     let mut at = 0;

@@ -43,7 +43,8 @@ fn run_script<S: Source, K: Sink>(alloc: Global, says: Boot, src: &mut S, out: &
 /// which is read first.
 ///
 /// A boot text with a bad line gives one line with its number, and status `Input`; `src` is then
-/// not read. Memory is wanted for the boot text alone, so `Memory` comes only with nothing written.
+/// not read. `Memory` comes only with nothing written, or at a write to a regular file that nothing denies, with all answers
+/// before it written.
 pub fn script_top<B: Source, S: Source, K: Sink>(
     alloc: Global,
     boot: &mut B,
@@ -67,7 +68,8 @@ pub fn script_top<B: Source, S: Source, K: Sink>(
 }
 
 /// Runs the command that the words after the program's name choose: every command but `serve`.
-/// Words of no form give the usage line and status 1, and nothing is read.
+/// Words of no form give the usage line and status 1, and nothing is read. Status 1 comes exactly there, where the sink's count
+/// of faults did not rise.
 pub fn plain_top<B: Source, S: Source, K: Sink>(
     alloc: Global,
     words: &[String],
@@ -81,6 +83,7 @@ pub fn plain_top<B: Source, S: Source, K: Sink>(
         (sink_use K.written K.faults out.old out.new) }
     ensures usage { choice_of (map string_bytes words.now) ≡ Choice.Usage →
         WroteUsage result (sink_use K.written K.faults out.old out.new) }
+    ensures usage_alone { result ≡ Status.Usage → (choice_of (map string_bytes words.now) ≡ Choice.Usage) × (K.faults out.new ≡ K.faults out.old) }
     ensures boot_unread { choice_of (map string_bytes words.now) ≡ Choice.Usage → boot.new ≡ boot.old }
     ensures src_unread { choice_of (map string_bytes words.now) ≡ Choice.Usage → src.new ≡ src.old }
 {

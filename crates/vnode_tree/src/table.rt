@@ -63,40 +63,34 @@ pub(crate) fn first_child(entries: &[Option<Entry>], dir: u16) -> Option<usize>
     entries.iter().position(|entry| is_in(entry, dir))
 }
 
-/// Changes what access to a node depends on, where the node is there.
+/// Changes what access to a node that is there depends on.
 pub(crate) fn set_attrs(entries: &mut [Option<Entry>], node: Node, attrs: Attrs)
+    requires { IsSome (entry_at entries.old node) }
     ensures { entries.new ≡ with_entry (entry_with_attrs attrs) entries.old node }
 {
-    let place = usize::from(node.number());
-    if place >= entries.len() {
-        return;
-    }
-    if let Some(entry) = &mut entries[place] {
-        entry.attrs = attrs;
+    match &mut entries[usize::from(node.number())] {
+        Some(entry) => entry.attrs = attrs,
+        None => unreachable!(),
     }
 }
 
-/// Changes the list that a node gives to new nodes in it, where the node is there.
+/// Changes the list that a node that is there gives to new nodes in it.
 pub(crate) fn set_default(entries: &mut [Option<Entry>], node: Node, list: Option<Acl>)
+    requires { IsSome (entry_at entries.old node) }
     ensures { entries.new ≡ with_entry (entry_with_default list) entries.old node }
 {
-    let place = usize::from(node.number());
-    if place >= entries.len() {
-        return;
-    }
-    if let Some(entry) = &mut entries[place] {
-        entry.default = list;
+    match &mut entries[usize::from(node.number())] {
+        Some(entry) => entry.default = list,
+        None => unreachable!(),
     }
 }
 
-/// Takes a node away, where it is there.
+/// Takes away a node that is there.
 pub(crate) fn take_away(entries: &mut [Option<Entry>], node: Node)
+    requires { IsSome (entry_at entries.old node) }
     ensures { entries.new ≡ slice_set entries.old node None }
 {
-    let place = usize::from(node.number());
-    if place < entries.len() {
-        entries[place] = None;
-    }
+    entries[usize::from(node.number())] = None;
 }
 
 /// How many bytes a node holds.
@@ -122,35 +116,30 @@ pub(crate) fn all_sizes(entries: &[Option<Entry>]) -> usize
     total
 }
 
-/// Writes bytes at a place of what a node holds, where the node is there. With `Err` nothing changes.
+/// Writes bytes at a place of what a node that is there holds. With `Err` nothing changes.
 pub(crate) fn write(
     entries: &mut [Option<Entry>],
     node: Node,
     at: u32,
     bytes: &[u8],
 ) -> Result<(), AllocError>
+    requires { IsSome (entry_at entries.old node) }
     ensures ok { OnOk result (entries.new ≡ with_entry (entry_with_contents (λ old. after_write old at bytes.now)) entries.old node) }
     ensures err { OnErr result (entries.new ≡ entries.old) }
 {
-    let place = usize::from(node.number());
-    if place >= entries.len() {
-        return Ok(());
+    match &mut entries[usize::from(node.number())] {
+        Some(entry) => entry.contents.write(at, bytes),
+        None => unreachable!(),
     }
-    if let Some(entry) = &mut entries[place] {
-        entry.contents.write(at, bytes)?;
-    }
-    Ok(())
 }
 
-/// Lets go what a node holds, where the node is there.
+/// Lets go what a node that is there holds.
 pub(crate) fn clear(entries: &mut [Option<Entry>], node: Node)
+    requires { IsSome (entry_at entries.old node) }
     ensures { entries.new ≡ with_entry (entry_with_contents (λ old. [])) entries.old node }
 {
-    let place = usize::from(node.number());
-    if place >= entries.len() {
-        return;
-    }
-    if let Some(entry) = &mut entries[place] {
-        entry.contents.clear();
+    match &mut entries[usize::from(node.number())] {
+        Some(entry) => entry.contents.clear(),
+        None => unreachable!(),
     }
 }

@@ -61,6 +61,9 @@ pub const SCENES: &str = "
 0 unlink /tmp/f -> 0 err EBUSY in-use
 0 unlink /tmp/g -> 0 ok 0
 0 unlink /tmp/g -> 0 err ENOENT no-entry
+# That it is absent too.
+0 rmdir /tmp/closed/x -> 0 err EACCES search
+0 rmdir /tmp/x -> 0 err ENOENT no-entry
 # The label of the directory above too, and its list.
 0 rmdir /bin/cat -> 0 err ENOTDIR not-dir
 0 rmdir / -> 0 err EBUSY in-use
@@ -84,6 +87,26 @@ pub const SCENES: &str = "
 0 list /tmp/x 65535 -> 0 text -
 0 rmdir /tmp/x -> 0 ok 0
 0 info /tmp/x -> 0 err ENOENT no-entry
+
+== a mode with x and without r is passed and not listed
+# Two directories and a file of the superuser, and a user who is another. A directory with x alone is searched, one with r alone is
+# listed, and a file with x alone is not read.
+0 mkdir /tmp/x 311 -> 0 ok 0
+0 mkdir /tmp/r 744 -> 0 ok 0
+0 open /tmp/x/f r c 666 -> 0 ok 0
+0 open /tmp/r/f r c 666 -> 0 ok 1
+0 open /tmp/p r c 711 -> 0 ok 2
+0 info /tmp/x -> 0 text dir:0:0:311:0
+0 setcred 1001 100 - -> 0 ok 0
+0 list /tmp/x 0 -> 0 err EACCES list
+0 info /tmp/x/f -> 0 text file:0:0:644:0
+0 open /tmp/x/f r -> 0 ok 3
+0 chdir /tmp/x -> 0 ok 0
+0 list . 0 -> 0 err EACCES list
+0 list /tmp/r 0 -> 0 text f
+0 info /tmp/r/f -> 0 err EACCES search
+0 chdir /tmp/r -> 0 err EACCES search
+0 open /tmp/p r -> 0 err EACCES list
 
 == names are listed in their order
 # Names come in the order of their bytes, from a number on.

@@ -9,6 +9,8 @@ mod directories;
 #[cfg(test)]
 mod files;
 #[cfg(test)]
+mod lines;
+#[cfg(test)]
 mod listings;
 #[cfg(test)]
 mod opens;

@@ -15,8 +15,8 @@ const SUPERUSER: u32 = 0;
 
 const USER: u32 = 1001;
 
-/// Who asks, of a uid, in the root directory.
-fn asker(rt: &impl Abort, tree: &Tree, uid: u32) -> Caller
+/// Who asks, of a uid and an active element, in the root directory.
+fn asker(rt: &impl Abort, tree: &Tree, uid: u32, active: Element) -> Caller
     ensures { IsHome tree.now result }
 {
     Caller {
@@ -25,13 +25,14 @@ fn asker(rt: &impl Abort, tree: &Tree, uid: u32) -> Caller
             gid: 100,
             groups: ArrayVec::new(),
         },
-        label: Subject::new(Element::Equal, Element::Low, Element::High).expect(rt, "a subject"),
+        label: Subject::new(active, Element::Low, Element::High).expect(rt, "a subject"),
         directory: tree.root(),
         umask: 0o022,
     }
 }
 
-/// Uids, paths, and the rule that denies a revoke. Of those with a remark a later rule would hold too.
+/// Uids, paths, and the rule that denies a revoke to a process whose active element is equal. Of those with a remark a later rule
+/// would hold too.
 const REVOKES: [(u32, &str, Option<Rule>); 6] = [
     (SUPERUSER, "/tmp/x", Some(Rule::NoEntry)),
     (SUPERUSER, "/tmp", Some(Rule::NoRevoke)),
@@ -43,10 +44,18 @@ const REVOKES: [(u32, &str, Option<Rule>); 6] = [
     (SUPERUSER, "/dev/tty0", None),
 ];
 
+/// The same for a process whose active element is high, which no element but high and equal dominates.
+const HIGH_REVOKES: [(u32, &str, Option<Rule>); 3] = [
+    // The label of the file.
+    (SUPERUSER, "/bin/cat", Some(Rule::NoRevoke)),
+    (USER, "/tmp", Some(Rule::NoRevoke)),
+    (SUPERUSER, "/dev/tty7", None),
+];
+
 /// The rule that denies a revoke of a path.
-fn denied(rt: &impl Abort, tree: &Tree, uid: u32, path: &str) -> Option<Rule> {
+fn denied(rt: &impl Abort, tree: &Tree, uid: u32, active: Element, path: &str) -> Option<Rule> {
     let path = PathText::from_slice(path.as_bytes()).expect(rt, "a path");
-    may_revoke(tree, &asker(rt, tree, uid), &path).err()
+    may_revoke(tree, &asker(rt, tree, uid, active), &path).err()
 }
 
 #[test]
@@ -54,7 +63,10 @@ fn the_owner_of_a_line_may_revoke_it(rt: HostRuntime) -> Result<(), Fail> {
     let boot = read_boot(rt.alloc(), b"")?;
     let tree = Tree::new(rt.alloc(), &boot)?;
     for (uid, path, rule) in &REVOKES {
-        assert!(rt; denied(&rt, &tree, *uid, path) == *rule, "{path}");
+        assert!(rt; denied(&rt, &tree, *uid, Element::Equal, path) == *rule, "{path}");
+    }
+    for (uid, path, rule) in &HIGH_REVOKES {
+        assert!(rt; denied(&rt, &tree, *uid, Element::High, path) == *rule, "{path}");
     }
     Ok(())
 }

@@ -6,7 +6,7 @@
 
 use crate::session::{NO_FAULTS, ROOM, Session};
 use crate::texts::push_expanded;
-use crate::{directories, files, listings, opens, paths, rights, sessions, standard};
+use crate::{directories, files, lines, listings, opens, paths, rights, sessions, standard};
 use std::alloc::Global;
 use std::test::Fail;
 
@@ -76,9 +76,10 @@ fn is_right(alloc: Global, title: &str, rows: &str) -> Result<bool, Fail> {
     Ok(session.writes(alloc, &pages.answers, 0)?)
 }
 
-const TABLES: [&str; 8] = [
+const TABLES: [&str; 9] = [
     directories::SCENES,
     files::SCENES,
+    lines::SCENES,
     listings::SCENES,
     opens::SCENES,
     paths::SCENES,

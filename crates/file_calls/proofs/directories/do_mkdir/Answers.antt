@@ -29,7 +29,7 @@ returns-in-Ok-make_node-clause-does c = λ files line recheck are.
     let free = ap denied_by (sym c.in-Ok-make_node.ensures.denied) in
     let kept : AreKeptAt old new files = rw c.in-Ok-make_node.ensures.new_node (made_files old node (named_as path made) files c.in-Ok-make_node.ensures.unused are) in
     let home : IsKeptAt old new caller.directory = rw c.in-Ok-make_node.ensures.new_node (made_kept old node caller.directory (named_as path made) c.in-Ok-make_node.ensures.unused c.requires.home.live) in
-    rw c.number.ensures (at_end v _ _ c.args.path.now (mkdir_at v c.args.mode) (absent dir c.in-Absent.name) (ap denied_by c.in-Ok.ensures.allowed) ends
+    rw c.nothing.ensures (at_end v _ _ c.args.path.now (mkdir_at v c.args.mode) (absent dir c.in-Absent.name) (ap denied_by c.in-Ok.ensures.allowed) ends
     (goes_on v _ (mkdir_at v c.args.mode (absent dir c.in-Absent.name)) (passes _ [] free)
     (view_changes old new files caller line recheck path made c.in-Ok-make_node.ensures.map kept home)))
 

@@ -73,6 +73,6 @@ returns-clause-does c = λ files line recheck are.
     let apart = no_file_of_dir nodes files node (sym c.is_dir.ensures.itself ∙ c.if-not-is_dir.false) are in
     let kept : AreKeptAt nodes new files = rw c.remove.ensures.without_node (other_files nodes node None files apart) in
     let home : IsKeptAt nodes new caller.directory = rw c.remove.ensures.without_node (other_kept nodes node caller.directory None away) in
-    rw c.number.ensures (at_node v _ _ c.args.path.now (rmdir_at v) place (ap denied_by c.in-Ok.ensures.allowed) c.in-Ok.ensures.ends
+    rw c.nothing.ensures (at_node v _ _ c.args.path.now (rmdir_at v) place (ap denied_by c.in-Ok.ensures.allowed) c.in-Ok.ensures.ends
     (goes_on v _ (rmdir_at v place) (first_of_last v place dir c.if-is_root.ensures.below free label ∙ none_is_first v place (sym c.has_children.ensures.map ∙ c.if-has_children.false) (alone nodes new node caller.directory c.remove.ensures.without_node c.remove.ensures.changes c.requires.live away))
     (view_changes nodes new files caller line recheck place None c.remove.ensures.map kept home)))

@@ -39,4 +39,4 @@ returns-clause-does c = λ files line recheck.
     let v = view_of nodes files caller line recheck in
     let own : is_not_owner v (what_is nodes node) ≡ false = not-true _ (sym (c.owns.ensures files line recheck) ∙ c.if-not-owns.false) in
     let inside : may_not_relabel v (what_is nodes node) c.args.element.now ≡ false = not-true _ (sym (c.relabels.ensures files line recheck) ∙ c.if-not-relabels.false) in
-    rw c.number.ensures (changed_there nodes c.set_element.new.tree files caller line recheck c.args.path.now (setlabel_at v c.args.element.now) node (with_element c.args.element.now) c.in-Ok.ensures (rw (own, inside) refl) refl (λ r. refl) c.set_element.ensures.set c.set_element.ensures.map)
+    rw c.nothing.ensures (changed_there nodes c.set_element.new.tree files caller line recheck c.args.path.now (setlabel_at v c.args.element.now) node (with_element c.args.element.now) c.in-Ok.ensures (rw (own, inside) refl) refl (λ r. refl) c.set_element.ensures.set c.set_element.ensures.map)

@@ -77,4 +77,4 @@ returns-clause-does c = λ files line recheck.
     let lacks : lacks_list v (path_of nodes node) c.args.which ≡ false = sym c.lacks_list.ensures ∙ c.if-lacks_list.false in
     let bad : is_bad_list c.args.which c.args.entries.now ≡ false = ap (is_bad_list c.args.which) (sym c.as_slice-2.ensures.entries) ∙ sym c.is_bad.ensures ∙ c.if-is_bad.false in
     let made = c.new-made.ensures.exact ∙ ap acl_of c.as_slice.ensures.entries in
-    rw c.number.ensures (changed_there nodes c.set_list.new.tree files caller line recheck c.args.path.now (setacl_at v c.args.which c.args.entries.now) node (with_entries c.args.which c.args.entries.now) c.in-Ok.ensures (rw (label, own, lacks, bad) refl) refl (keeps_kind c.args.which c.args.entries.now) (c.set_list.ensures.set c.args.entries.now made) (c.set_list.ensures.map c.args.entries.now made))
+    rw c.nothing.ensures (changed_there nodes c.set_list.new.tree files caller line recheck c.args.path.now (setacl_at v c.args.which c.args.entries.now) node (with_entries c.args.which c.args.entries.now) c.in-Ok.ensures (rw (label, own, lacks, bad) refl) refl (keeps_kind c.args.which c.args.entries.now) (c.set_list.ensures.set c.args.entries.now made) (c.set_list.ensures.map c.args.entries.now made))

@@ -36,4 +36,4 @@ returns-clause-does c = λ files line recheck.
     let v = view_of nodes files caller line recheck in
     let label : node_dominates v (what_is nodes c.in-Ok.node) ≡ true = sym (c.label_writes.ensures files line recheck) ∙ c.if-not-label_writes.false in
     let own : is_not_owner v (what_is nodes c.in-Ok.node) ≡ false = not-true _ (sym (c.owns.ensures files line recheck) ∙ c.if-not-owns.false) in
-    rw c.number.ensures (changed_there nodes c.set_mode.new.tree files caller line recheck c.args.path.now (chmod_at v c.args.mode) c.in-Ok.node (with_bits c.args.mode) c.in-Ok.ensures (rw (label, own) refl) refl (λ r. refl) c.set_mode.ensures.set c.set_mode.ensures.map)
+    rw c.nothing.ensures (changed_there nodes c.set_mode.new.tree files caller line recheck c.args.path.now (chmod_at v c.args.mode) c.in-Ok.node (with_bits c.args.mode) c.in-Ok.ensures (rw (label, own) refl) refl (λ r. refl) c.set_mode.ensures.set c.set_mode.ensures.map)

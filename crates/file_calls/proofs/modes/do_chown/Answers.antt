@@ -36,4 +36,4 @@ returns-clause-does c = λ files line recheck.
     let v = view_of nodes files caller line recheck in
     let label : node_dominates v (what_is nodes c.in-Ok.node) ≡ true = sym (c.label_writes.ensures files line recheck) ∙ c.if-not-label_writes.false in
     let superuser : is_superuser caller.cred ≡ true = sym c.is_superuser.ensures ∙ c.if-not-is_superuser.false in
-    rw c.number.ensures (changed_there nodes c.set_owner.new.tree files caller line recheck c.args.path.now (chown_at v c.args.uid c.args.gid) c.in-Ok.node (with_owner c.args.uid c.args.gid) c.in-Ok.ensures (rw (label, superuser) refl) refl (λ r. refl) c.set_owner.ensures.set c.set_owner.ensures.map)
+    rw c.nothing.ensures (changed_there nodes c.set_owner.new.tree files caller line recheck c.args.path.now (chown_at v c.args.uid c.args.gid) c.in-Ok.node (with_owner c.args.uid c.args.gid) c.in-Ok.ensures (rw (label, superuser) refl) refl (λ r. refl) c.set_owner.ensures.set c.set_owner.ensures.map)

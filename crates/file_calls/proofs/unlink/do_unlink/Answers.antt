@@ -64,6 +64,6 @@ returns-clause-does c = λ line recheck.
     let kept : AreKeptAt nodes new files = rw c.remove.ensures.without_node (other_files nodes node None files apart) in
     let away : caller.directory ≢ node = λ same. absurd (let never : true ≡ false = sym c.requires.home.directory ∙ ap (λ (n : ℕ). is_dir_record (record_of nodes n)) same ∙ ap is_dir_record c.kind.ensures.map ∙ plain.0 in cc) in
     let home : IsKeptAt nodes new caller.directory = rw c.remove.ensures.without_node (other_kept nodes node caller.directory None away) in
-    rw c.number.ensures (at_node v _ _ c.args.path.now (unlink_at v) place (ap denied_by c.in-Ok.ensures.allowed) c.in-Ok.ensures.ends
+    rw c.nothing.ensures (at_node v _ _ c.args.path.now (unlink_at v) place (ap denied_by c.in-Ok.ensures.allowed) c.in-Ok.ensures.ends
     (goes_on v _ (unlink_at v place) (rw (plain.0, plain.1, free, label, unused) refl)
     (view_changes nodes new files caller line recheck place None c.remove.ensures.map kept home)))

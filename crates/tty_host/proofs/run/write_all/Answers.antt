@@ -1,4 +1,4 @@
-use Rattle.std.proofs.Common.{arith}
+use Rattle.std.proofs.Common.{◌∙◌, arith}
 use Rattle.tty_host.proofs.Told.{appended-take}
 use Rattle.tty_host.proofs.run.write_all.Goals as goal
 
@@ -10,5 +10,6 @@ loop-at-preserved g c =
     record {
       within = omega (arith, within, c.split_at.ensures.back_len);
       written = appended-take _ _ _ c.args.bytes.now c.loop-at.at c.in_ok-at.field-0 c.loop-at.invariant.written (rw c.split_at.ensures.back at took);
+      no_fault = c.in_ok-at.ensures.no_fault ∙ c.loop-at.invariant.no_fault;
       grows = omega (arith, grows, c.loop-at.invariant.grows);
     }

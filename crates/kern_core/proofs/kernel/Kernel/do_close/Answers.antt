@@ -17,11 +17,11 @@ returns-then-not-was_last_live c =
     let k = c.self.inside in
     let tty = (of_line k.files c.args.fd c.in-Some.file c.tty_of.result c.is_none.result (sym c.get.ensures ∙ c.in-Some.is) c.tty_of.ensures c.is_none.ensures c.if-is_none.false) in
     let last = rw c.close.ensures at (sym c.was_last_live.ensures ∙ c.if-not-was_last_live.true) in
-    rw (← c.self.view_is, c.close.ensures, c.number.ensures) (line_closed k.tree k.files k.caller k.line k.recheck c.args.fd c.in-Some.file false (sym c.get.ensures ∙ c.in-Some.is) tty last)
+    rw (← c.self.view_is, c.close.ensures, c.nothing.ensures) (line_closed k.tree k.files k.caller k.line k.recheck c.args.fd c.in-Some.file false (sym c.get.ensures ∙ c.in-Some.is) tty last)
 
 pub returns : goal.returns
 returns c =
     let k = c.self.inside in
     let tty = (of_line k.files c.args.fd c.in-Some.file c.tty_of.result c.is_none.result (sym c.get.ensures ∙ c.in-Some.is) c.tty_of.ensures c.is_none.ensures c.if-is_none.false) in
     let last = rw c.close.ensures at (sym c.was_last_live.ensures ∙ c.if-not-was_last_live.false) in
-    rw (← c.self.view_is, c.close.ensures, c.empty.ensures, c.number-2.ensures) (line_closed k.tree k.files k.caller k.line k.recheck c.args.fd c.in-Some.file true (sym c.get.ensures ∙ c.in-Some.is) tty last)
+    rw (← c.self.view_is, c.close.ensures, c.empty.ensures, c.nothing-2.ensures) (line_closed k.tree k.files k.caller k.line k.recheck c.args.fd c.in-Some.file true (sym c.get.ensures ∙ c.in-Some.is) tty last)

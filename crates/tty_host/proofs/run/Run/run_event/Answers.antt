@@ -1,4 +1,4 @@
-use Rattle.std.proofs.Common.{◌<◌, ◌∙◌, arith}
+use Rattle.std.proofs.Common.{◌<◌, ◌∙◌, refl, arith}
 use Rattle.tty_host.proofs.OneEvent.{event-full, event-full-failed, event-next, event-next-failed, event-memory, answered}
 use Rattle.tty_host.proofs.run.Run.run_event.Goals as goal
 
@@ -23,4 +23,4 @@ returns-in-Err-write_all-clause-goes g c = λ es bad.
 pub returns-in-Err-step-clause-goes : goal.returns-in-Err-step-clause-goes
 returns-in-Err-step-clause-goes g c = λ es bad.
     let some : 0 < c.args.self.now.room = omega arith in
-    event-memory _ _ _ es bad _ _ some c.in-Err-step.ensures.memory
+    event-memory _ _ _ es bad _ _ some (rw (c.in-Err-step.ensures.memory, c.in-Err-step.ensures.free) refl)

@@ -1,6 +1,10 @@
 use Rattle.vnode_tree.proofs.Calls.{removed, place_written}
 use Rattle.vnode_tree.proofs.Finite.{nodes_changed}
+use Rattle.vnode_tree.proofs.Looks.{live_entry}
 use Rattle.vnode_tree.proofs.tree.Tree.remove.Goals as goal
+
+pub take_away-requires : goal.take_away-requires
+take_away-requires c = rw c.as_mut_slice.ensures.value (live_entry c.self.inside.entries.items c.args.self.now c.args.node c.self.view_is c.requires.live)
 
 pub invariant_of-self : goal.invariant_of-self
 invariant_of-self c = rw (place_written c.self.inside.entries.len c.self.inside.entries.items c.as_mut_slice.result.now c.take_away.new.entries c.args.node c.self.inside.entries.ok.0 c.as_mut_slice.ensures.value c.take_away.ensures) (removed c.self.inside.entries.items c.args.self.now c.args.node c.self.view_is c.self.invariant c.requires.live c.requires.removable).kept

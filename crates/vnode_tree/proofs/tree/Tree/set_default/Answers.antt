@@ -1,7 +1,11 @@
 use Rattle.vnode_tree.specs.Links.{entry_with_default}
 use Rattle.vnode_tree.proofs.Calls.{default_set, entry_written}
 use Rattle.vnode_tree.proofs.Finite.{nodes_changed}
+use Rattle.vnode_tree.proofs.Looks.{live_entry}
 use Rattle.vnode_tree.proofs.tree.Tree.set_default.Goals as goal
+
+pub set_default-requires : goal.set_default-requires
+set_default-requires c = rw c.as_mut_slice.ensures.value (live_entry c.self.inside.entries.items c.args.self.now c.args.node c.self.view_is c.requires.live)
 
 pub invariant_of-self : goal.invariant_of-self
 invariant_of-self c = rw (entry_written (entry_with_default c.args.list) c.self.inside.entries.len c.self.inside.entries.items c.as_mut_slice.result.now c.set_default.new.entries c.args.node c.self.inside.entries.ok.0 c.as_mut_slice.ensures.value c.set_default.ensures) (default_set c.args.list c.self.inside.entries.items c.args.self.now c.args.node c.self.view_is c.self.invariant c.requires.live).kept

@@ -8,6 +8,9 @@ use Rattle.vnode_tree.proofs.Files.{file_live, file_written, weighed}
 use Rattle.vnode_tree.proofs.Finite.{nodes_changed, bytes_after, apart_table}
 use Rattle.vnode_tree.proofs.tree.Tree.write.Goals as goal
 
+pub write-requires : goal.write-requires
+write-requires c = rw c.as_mut_slice.ensures.value (live_entry c.self.inside.entries.items c.args.self.now c.args.node c.self.view_is (file_live c.args.self.now c.args.node c.requires))
+
 pub entry_of-requires : goal.entry_of-requires
 entry_of-requires c = rw c.as_slice.ensures.value (live_entry c.self.inside.entries.items c.args.self.now c.args.node c.self.view_is (file_live c.args.self.now c.args.node c.requires))
 
