@@ -19,7 +19,7 @@ use Rattle.machine_model.specs.Effects.{made, at, opened, change_all}
 use Rattle.machine_model.specs.Places.{node_at, path_line, end_of}
 use Rattle.machine_model.specs.Rows.{Row, Does, number, refused, first, answered, behind, line}
 use Rattle.machine_model.specs.FileCalls.{flags_clash, is_plain_file, no_contents, open_at, open_row, opened_for, truncated, tty_of, lowest_free}
-use Rattle.vnode_tree.specs.Nodes.{NodeAt, IsLive, is_file_record, node_at, path_in, path_of, record_of, with_contents, with_node, with_record}
+use Rattle.vnode_tree.specs.Nodes.{NodeAt, IsLive, is_file_record, node_at as node_by_number, path_in, path_of, record_of, with_contents, with_node, with_record}
 use Rattle.file_calls.specs.declared.caller.Caller.{Caller}
 use Rattle.file_calls.specs.declared.descriptors.OpenFile.{OpenFile}
 use Rattle.file_calls.specs.Makes.{made_node, denied_make, named_as, what_is}
@@ -84,7 +84,7 @@ made_at old caller dir node path kind mode live =
     let put = named_as path (made_node old caller dir kind mode) in
     let new = with_node old node put in
     let here = made_here old node put live in
-    elim (what_is old dir) as (λ o. node_at new node ≡ named_as path (new_in_dir caller.cred caller.label caller.umask o kind mode) → MadeAt new node path kind) [
+    elim (what_is old dir) as (λ o. node_by_number new node ≡ named_as path (new_in_dir caller.cred caller.label caller.umask o kind mode) → MadeAt new node path kind) [
       | None ↦ λ is. absurd (let no : false ≡ true = sym (ap (λ (x : Option NodeAt). is_some x) is) ∙ live in cc)
       | Some d ↦ λ is. record {
         place = ap path_in is;
@@ -93,7 +93,7 @@ made_at old caller dir node path kind mode live =
     ] here
 
 -- a node that is made and taken away again leaves the nodes as they were
-pub made_and_gone : (old : List (Option NodeAt)) (node : ℕ) (x : Option NodeAt) → node_at old node ≡ None → with_node (with_node old node x) node None ≡ old
+pub made_and_gone : (old : List (Option NodeAt)) (node : ℕ) (x : Option NodeAt) → node_by_number old node ≡ None → with_node (with_node old node x) node None ≡ old
 made_and_gone old node x free = set-set old node x None ∙ ap (with_node old node) (sym free) ∙ set-get_or old node None
 
 -- ---- the number

@@ -11,7 +11,7 @@ use Rattle.machine_model.specs.View.{View}
 use Rattle.machine_model.specs.Places.{access_line, node_at, node_dominates}
 use Rattle.machine_model.specs.Rows.{Outcome, refused, line, first}
 use Rattle.machine_model.specs.PathCalls.{is_file_of, same_place, rmdir_at}
-use Rattle.vnode_tree.specs.Nodes.{NodeAt, IsLive, node_at, path_in, path_of, record_of, same_path, tree_of, with_node, ChangesAt}
+use Rattle.vnode_tree.specs.Nodes.{NodeAt, IsLive, node_at as node_by_number, path_in, path_of, record_of, same_path, tree_of, with_node, ChangesAt}
 use Rattle.vnode_tree.proofs.Finite.{same_path_tied, named_other}
 use Rattle.vnode_tree.proofs.Trees.{path_refl, path_false}
 use Rattle.file_calls.specs.declared.descriptors.OpenFile.{OpenFile}
@@ -71,7 +71,7 @@ none_seen nodes (Some f ∷ files) node apart =
 
 -- ---- the path of a node that goes
 
-some_there : (nodes : List (Option NodeAt)) (n : ℕ) (named : NodeAt) → node_at nodes n ≡ Some named → is_some (tree_of nodes named.path) ≡ true
+some_there : (nodes : List (Option NodeAt)) (n : ℕ) (named : NodeAt) → node_by_number nodes n ≡ Some named → is_some (tree_of nodes named.path) ≡ true
 unfolding tree_of
 some_there [] n named at = absurd (let never : None ≡ Some named = at in cc)
 some_there (None ∷ nodes) zero named at = absurd (let never : None ≡ Some named = at in cc)
@@ -88,10 +88,10 @@ some_there (Some other ∷ nodes) (suc n) named at =
 -- no other node has the path of one that goes
 pub alone : (old new : List (Option NodeAt)) (n m : ℕ) → new ≡ with_node old n None → ChangesAt (path_of old n) None old new → IsLive old m → m ≢ n → path_of old n ≢ path_of old m
 alone old new n m gone changes live apart = λ same.
-    elim (node_at old m) as (λ o. node_at old m ≡ o → IsSome o → ⊥) [
+    elim (node_by_number old m) as (λ o. node_by_number old m ≡ o → IsSome o → ⊥) [
       | None ↦ λ at some. absurd (let never : false ≡ true = some in cc)
       | Some named ↦ λ at some.
-          let there : node_at new m ≡ Some named = ap (λ (t : List (Option NodeAt)). node_at t m) gone ∙ named_other old n m None apart ∙ at in
+          let there : node_by_number new m ≡ Some named = ap (λ (t : List (Option NodeAt)). node_by_number t m) gone ∙ named_other old n m None apart ∙ at in
           let path : path_of old n ≡ named.path = same ∙ ap path_in at in
           let none : tree_of new (path_of old n) ≡ None = changes.only (path_of old n) ∙ rw (path_refl (path_of old n)) refl in
           let has : is_some (tree_of new (path_of old n)) ≡ true = ap (λ (p : List (List ℕ)). is_some (tree_of new p)) path ∙ some_there new m named there in

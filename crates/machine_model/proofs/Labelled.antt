@@ -275,11 +275,38 @@ well_call v slot (call.SetProcLabel subject) = plain_row v (row v (event.Call sl
 well_call v slot (call.Umask mode) = plain_row v (row v (event.Call slot (call.Umask mode))) (refl)
 well_call v slot call.Ident = plain_row v (row v (event.Call slot call.Ident)) (refl)
 well_call v slot (call.Revoke path) = plain_row v (row v (event.Call slot (call.Revoke path))) (refl)
+well_call v slot (call.Dup a) = plain_row v (row v (event.Call slot (call.Dup a))) (refl)
+well_call v slot (call.Dup2 a b) = plain_row v (row v (event.Call slot (call.Dup2 a b))) (refl)
+well_call v slot call.Pipe = plain_row v (row v (event.Call slot call.Pipe)) (refl)
+well_call v slot call.Begin = plain_row v (row v (event.Call slot call.Begin)) (refl)
+well_call v slot (call.Fork a) = plain_row v (row v (event.Call slot (call.Fork a))) (refl)
+well_call v slot (call.Exec a b) = plain_row v (row v (event.Call slot (call.Exec a b))) (refl)
+well_call v slot (call.Exit a) = plain_row v (row v (event.Call slot (call.Exit a))) (refl)
+well_call v slot (call.Wait a b) = plain_row v (row v (event.Call slot (call.Wait a b))) (refl)
+well_call v slot call.SetSid = plain_row v (row v (event.Call slot call.SetSid)) (refl)
+well_call v slot (call.SetPgid a b) = plain_row v (row v (event.Call slot (call.SetPgid a b))) (refl)
+well_call v slot call.Ps = plain_row v (row v (event.Call slot call.Ps)) (refl)
+well_call v slot call.Halt = plain_row v (row v (event.Call slot call.Halt)) (refl)
+well_call v slot (call.Kill a b) = plain_row v (row v (event.Call slot (call.Kill a b))) (refl)
+well_call v slot (call.SigSet a b) = plain_row v (row v (event.Call slot (call.SigSet a b))) (refl)
+well_call v slot call.SigTake = plain_row v (row v (event.Call slot call.SigTake)) (refl)
+well_call v slot call.Pause = plain_row v (row v (event.Call slot call.Pause)) (refl)
+well_call v slot (call.SetCtty a) = plain_row v (row v (event.Call slot (call.SetCtty a))) (refl)
+well_call v slot (call.TcGetAttr a) = plain_row v (row v (event.Call slot (call.TcGetAttr a))) (refl)
+well_call v slot (call.TcSetAttr a b c) = plain_row v (row v (event.Call slot (call.TcSetAttr a b c))) (refl)
+well_call v slot (call.TcFlush a b) = plain_row v (row v (event.Call slot (call.TcFlush a b))) (refl)
+well_call v slot (call.TcDrain a) = plain_row v (row v (event.Call slot (call.TcDrain a))) (refl)
+well_call v slot (call.TcSetPgrp a b) = plain_row v (row v (event.Call slot (call.TcSetPgrp a b))) (refl)
+well_call v slot (call.TcGetPgrp a) = plain_row v (row v (event.Call slot (call.TcGetPgrp a))) (refl)
+well_call v slot (call.FdName a) = plain_row v (row v (event.Call slot (call.FdName a))) (refl)
 
 well_row : (v : View) (e : Event) → WellRow v (row v e)
 well_row v (event.Call slot c) = well_call v slot c
 well_row v (event.Byte tty b) = plain_row v (row v (event.Byte tty b)) refl
 well_row v (event.Take tty max) = plain_row v (row v (event.Take tty max)) refl
+well_row v (event.Again slot) = plain_row v (row v (event.Again slot)) refl
+well_row v (event.Carrier tty up) = plain_row v (row v (event.Carrier tty up)) refl
+well_row v (event.Ended tty) = plain_row v (row v (event.Ended tty)) refl
 
 done_well : (v : View) (r : Row) (o : Option Outcome) → first r.lines ≡ o → WellRow v r → MadeWell v (done_by o r.effects)
 done_well v r None none well = well none

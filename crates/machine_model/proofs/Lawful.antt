@@ -2,9 +2,9 @@
 use Rattle.std.proofs.Common.{◌≡◌, ℕ, zero, suc, ◌+◌, ◌≤◌, inl, inr, Bool, true, false, not, List, [], ◌∷◌, length, map, get_or, Option, Some, None, refl, sym, ap, subst, ◌∙◌, arith, ne_eqb, eqb, ltb, is_none}
 use Rattle.call_words.specs.declared.event.Event.{Event}
 use Rattle.call_words.specs.declared.event.Event.TheVariants as event
-use Rattle.call_words.specs.declared.event.Reply.TheVariants.{Num, Bytes, Text, Denied, Gone}
+use Rattle.call_words.specs.declared.event.Reply.TheVariants.{Num, Pair, Child, Image, Bytes, Text, Denied, Gone}
 use Rattle.call_words.specs.declared.event.Decision.{Decision}
-use Rattle.call_words.specs.declared.event.Decision.TheVariants.{Answer, Taken, Noted}
+use Rattle.call_words.specs.declared.event.Decision.TheVariants.{Answer, Sleep, Taken, Noted}
 use Rattle.call_words.specs.declared.call.Call.{Call}
 use Rattle.call_words.specs.declared.call.Call.TheVariants as call
 use Rattle.sys_types.specs.declared.rules.Rule.{Rule}
@@ -85,6 +85,10 @@ answers_no_bytes (Answer (Bytes bs)) h = rw h refl
 answers_no_bytes (Answer (Text t)) h = absurd h
 answers_no_bytes (Answer (Denied rule)) h = refl
 answers_no_bytes (Answer Gone) h = refl
+answers_no_bytes (Answer (Pair r w)) h = absurd h
+answers_no_bytes (Answer (Child pid how)) h = absurd h
+answers_no_bytes (Answer (Image image args)) h = absurd h
+answers_no_bytes (Sleep reason) h = absurd h
 answers_no_bytes (Taken bs) h = absurd h
 answers_no_bytes Noted h = absurd h
 
@@ -173,11 +177,38 @@ revokes_call s n slot (call.SetProcLabel subject) h dead = cc
 revokes_call s n slot (call.Umask mode) h dead = cc
 revokes_call s n slot call.Ident h dead = cc
 revokes_call s n slot (call.Revoke path) h dead = cc
+revokes_call s n slot (call.Dup a) h dead = cc
+revokes_call s n slot (call.Dup2 a b) h dead = cc
+revokes_call s n slot call.Pipe h dead = cc
+revokes_call s n slot call.Begin h dead = cc
+revokes_call s n slot (call.Fork a) h dead = cc
+revokes_call s n slot (call.Exec a b) h dead = cc
+revokes_call s n slot (call.Exit a) h dead = cc
+revokes_call s n slot (call.Wait a b) h dead = cc
+revokes_call s n slot call.SetSid h dead = cc
+revokes_call s n slot (call.SetPgid a b) h dead = cc
+revokes_call s n slot call.Ps h dead = cc
+revokes_call s n slot call.Halt h dead = cc
+revokes_call s n slot (call.Kill a b) h dead = cc
+revokes_call s n slot (call.SigSet a b) h dead = cc
+revokes_call s n slot call.SigTake h dead = cc
+revokes_call s n slot call.Pause h dead = cc
+revokes_call s n slot (call.SetCtty a) h dead = cc
+revokes_call s n slot (call.TcGetAttr a) h dead = cc
+revokes_call s n slot (call.TcSetAttr a b c) h dead = cc
+revokes_call s n slot (call.TcFlush a b) h dead = cc
+revokes_call s n slot (call.TcDrain a) h dead = cc
+revokes_call s n slot (call.TcSetPgrp a b) h dead = cc
+revokes_call s n slot (call.TcGetPgrp a) h dead = cc
+revokes_call s n slot (call.FdName a) h dead = cc
 
 revokes : (s : State) (n : ℕ) (e : Event) → Within n s → Revokes s (n + 1) e
 revokes s n (event.Call slot c) h = λ dead. revokes_call s n slot c h dead
 revokes s n (event.Byte tty b) h = tt
 revokes s n (event.Take tty max) h = tt
+revokes s n (event.Again slot) h = tt
+revokes s n (event.Carrier tty up) h = tt
+revokes s n (event.Ended tty) h = tt
 
 -- a read that a label denies answers no bytes
 unread : (left big unreadable : Bool) (more : List (Option Outcome)) (g : Given) (bs : List ℕ) → decided (first (line left (early gone) ∷ line big (refused Size) ∷ line false (refused BadFd) ∷ line unreadable (refused FdMode) ∷ line false (early (bytes [])) ∷ line true (refused LabelRead) ∷ more)) g ≡ Answer (Bytes bs) → ⊥
@@ -279,11 +310,38 @@ uses_labels s p slot (call.SetProcLabel subject) = tt
 uses_labels s p slot (call.Umask mode) = tt
 uses_labels s p slot call.Ident = tt
 uses_labels s p slot (call.Revoke path) = tt
+uses_labels s p slot (call.Dup a) = tt
+uses_labels s p slot (call.Dup2 a b) = tt
+uses_labels s p slot call.Pipe = tt
+uses_labels s p slot call.Begin = tt
+uses_labels s p slot (call.Fork a) = tt
+uses_labels s p slot (call.Exec a b) = tt
+uses_labels s p slot (call.Exit a) = tt
+uses_labels s p slot (call.Wait a b) = tt
+uses_labels s p slot call.SetSid = tt
+uses_labels s p slot (call.SetPgid a b) = tt
+uses_labels s p slot call.Ps = tt
+uses_labels s p slot call.Halt = tt
+uses_labels s p slot (call.Kill a b) = tt
+uses_labels s p slot (call.SigSet a b) = tt
+uses_labels s p slot call.SigTake = tt
+uses_labels s p slot call.Pause = tt
+uses_labels s p slot (call.SetCtty a) = tt
+uses_labels s p slot (call.TcGetAttr a) = tt
+uses_labels s p slot (call.TcSetAttr a b c) = tt
+uses_labels s p slot (call.TcFlush a b) = tt
+uses_labels s p slot (call.TcDrain a) = tt
+uses_labels s p slot (call.TcSetPgrp a b) = tt
+uses_labels s p slot (call.TcGetPgrp a) = tt
+uses_labels s p slot (call.FdName a) = tt
 
 labelled : (s : State) (n : ℕ) (e : Event) → Within n s → IsLabelled s (n + 1) e
 labelled s n (event.Call slot c) h = uses_labels s (n + 1) slot c
 labelled s n (event.Byte tty b) h = tt
 labelled s n (event.Take tty max) h = tt
+labelled s n (event.Again slot) h = tt
+labelled s n (event.Carrier tty up) h = tt
+labelled s n (event.Ended tty) h = tt
 
 -- what holds of each event of a state within its position holds throughout a run
 throughout : (P : State → ℕ → Event → Type 0) → ((s : State) (n : ℕ) (e : Event) → Within n s → P s (n + 1) e) → (es : List Event) (s : State) (n : ℕ) → Within n s → Throughout P s (n + 1) es

@@ -284,11 +284,38 @@ orderly-call v (call.SetProcLabel subject) = refl
 orderly-call v (call.Umask mode) = refl
 orderly-call v call.Ident = refl
 orderly-call v (call.Revoke path) = refl
+orderly-call v (call.Dup a) = refl
+orderly-call v (call.Dup2 a b) = refl
+orderly-call v call.Pipe = refl
+orderly-call v call.Begin = refl
+orderly-call v (call.Fork a) = refl
+orderly-call v (call.Exec a b) = refl
+orderly-call v (call.Exit a) = refl
+orderly-call v (call.Wait a b) = refl
+orderly-call v call.SetSid = refl
+orderly-call v (call.SetPgid a b) = refl
+orderly-call v call.Ps = refl
+orderly-call v call.Halt = refl
+orderly-call v (call.Kill a b) = refl
+orderly-call v (call.SigSet a b) = refl
+orderly-call v call.SigTake = refl
+orderly-call v call.Pause = refl
+orderly-call v (call.SetCtty a) = refl
+orderly-call v (call.TcGetAttr a) = refl
+orderly-call v (call.TcSetAttr a b c) = refl
+orderly-call v (call.TcFlush a b) = refl
+orderly-call v (call.TcDrain a) = refl
+orderly-call v (call.TcSetPgrp a b) = refl
+orderly-call v (call.TcGetPgrp a) = refl
+orderly-call v (call.FdName a) = refl
 
 orderly-row : (v : View) (e : Event) → is_orderly (row v e).effects ≡ true
 orderly-row v (event.Call slot c) = orderly-call v c
 orderly-row v (event.Byte tty b) = refl
 orderly-row v (event.Take tty max) = refl
+orderly-row v (event.Again slot) = refl
+orderly-row v (event.Carrier tty up) = refl
+orderly-row v (event.Ended tty) = refl
 
 -- what an event does makes at most one name or revoke
 pub orderly-event : (v : View) (e : Event) → is_orderly (done (row v e)) ≡ true

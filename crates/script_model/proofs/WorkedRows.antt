@@ -25,7 +25,7 @@ use Rattle.script_text.specs.Calls.{path_call_of, rights_call_of, caller_call_of
 use Rattle.script_text.specs.Reading.{events_of_line}
 use Rattle.script_text.specs.Answers.{wake_text, answer_line}
 use Rattle.script_model.specs.Reading.{built_events}
-use Rattle.script_model.specs.Script.{script_out, text_end, written}
+use Rattle.script_model.specs.Script.{script_out, text_end, written as writes}
 use Rattle.user_db.specs.Lines.{lines}
 use Rattle.user_db.specs.Grammar.{boot_line_of}
 use Rattle.user_db.specs.Boot.{boot_of}
