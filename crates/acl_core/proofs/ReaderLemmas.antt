@@ -1,5 +1,5 @@
 -- Readers of texts: what they find is spelled so, what is spelled so they find, and where they stop no text goes on.
-use Rattle.std.proofs.Common.{◌≡◌, ℕ, ◌⊎◌, inl, inr, true, false, cond, eqb, List, [], ◌∷◌, ◌++◌, length, Result, Ok, Err, refl, sym, ap, subst, ◌∙◌, append_assoc, append-nil}
+use Rattle.std.proofs.Common.{◌≡◌, ℕ, ◌⊎◌, inl, inr, true, false, cond, eqb, List, [], ◌∷◌, ◌++◌, Result, Ok, Err, refl, sym, ap, subst, ◌∙◌, append_assoc, append-nil}
 use Rattle.std.proofs.lemmas.Bool.{cases_Bool, eqb-true, eq-eqb}
 use Rattle.acl_core.specs.declared.fault.Stop.{Stop}
 use Rattle.acl_core.specs.Reading.{◌>>=◌, byte_at, word_at, begins_as, stop_at}

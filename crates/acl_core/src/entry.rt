@@ -2,7 +2,7 @@
 
 use crate::Perm;
 
-/// How many entries a list has at most.
+/// How many entries a list has at most (acl(3)).
 pub const MOST_ENTRIES: usize = 64;
 
 /// Whom an entry is about. The order is the one in which a list is printed. The default is for the

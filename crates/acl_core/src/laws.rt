@@ -86,7 +86,7 @@ pub fn inherited_never_widens()
 /// where there is no mask, and others'. Every other entry stays as it is, and all stay in order.
 pub fn mode_leaves_other_entries()
     ensures tags { (list : List Entry) (mode : ℕ) → map (λ e. e.tag) (with_mode list mode) ≡ map (λ e. e.tag) list }
-    ensures named { (list : List Entry) (mode : ℕ) (e : Entry) → IsTrue (is_named e.tag)
+    ensures named_entries { (list : List Entry) (mode : ℕ) (e : Entry) → IsTrue (is_named e.tag)
         → Contains list e → Contains (with_mode list mode) e }
     ensures group_under_mask { (list : List Entry) (mode : ℕ) (e : Entry) → has_tag Mask list ≡ true
         → e.tag ≡ GroupObj → Contains list e → Contains (with_mode list mode) e }
@@ -107,7 +107,7 @@ pub fn inheriting_gives_the_common_bits()
         → Contains (inherited_list list mode) (record { tag = GroupObj; perm = common perm (group_bits mode) }) }
     ensures other { (list : List Entry) (mode : ℕ) (perm : Perm) → Contains list (record { tag = Other; perm = perm })
         → Contains (inherited_list list mode) (record { tag = Other; perm = common perm (other_bits mode) }) }
-    ensures named { (list : List Entry) (mode : ℕ) (e : Entry) → IsTrue (is_named e.tag)
+    ensures named_entries { (list : List Entry) (mode : ℕ) (e : Entry) → IsTrue (is_named e.tag)
         → Contains list e → Contains (inherited_list list mode) e }
     ensures group_under_mask { (list : List Entry) (mode : ℕ) (e : Entry) → has_tag Mask list ≡ true
         → e.tag ≡ GroupObj → Contains list e → Contains (inherited_list list mode) e }

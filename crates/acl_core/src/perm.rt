@@ -18,7 +18,7 @@ pub struct Perm {
 }
 
 impl Perm {
-    /// The permission of an octal digit: read is 4, write is 2 and execute is 1.
+    /// The permission of an octal digit, 0 to 7: read is 4, write is 2 and execute is 1 (chmod(2)).
     pub fn from_digit(digit: u16) -> Self
         requires { digit < 8 }
         ensures { result ≡ perm_of digit }
@@ -30,7 +30,7 @@ impl Perm {
         }
     }
 
-    /// Its octal digit.
+    /// Its octal digit, 0 to 7.
     pub fn digit(self) -> u16
         ensures value { result ≡ digit_of self }
         ensures below { result < 8 }

@@ -1,12 +1,12 @@
 -- The kind of a fault is that of the number of which a digit stands there, and no other number's.
-use Rattle.std.proofs.Common.{◌≡◌, ◌≢◌, ◌⊎◌, inl, inr, ℕ, ◌-◌, ◌≤◌, List, [], ◌∷◌, ◌++◌, length, Result, Ok, Err, refl, sym, ap, subst, ◌∙◌, arith, append_assoc, length-append}
-use Rattle.std.specs.Prelude.{◌↔◌, codes}
+use Rattle.std.proofs.Common.{◌≡◌, ◌≢◌, ◌⊎◌, inl, inr, ℕ, ◌-◌, ◌≤◌, List, [], ◌∷◌, ◌++◌, length, Err, sym, ap, subst, ◌∙◌, arith, append_assoc, length-append}
+use Rattle.std.specs.Prelude.{◌↔◌}
 use Rattle.label_core.specs.declared.fault.LabelFault.{LabelFault}
 use Rattle.label_core.specs.declared.fault.LabelKind.{LabelKind}
 use Rattle.label_core.specs.declared.fault.LabelKind.TheVariants as kind
 use Rattle.label_core.specs.declared.fault.Stop.{Stop}
 use Rattle.label_core.specs.Subject.{Parts, is_subject}
-use Rattle.label_core.specs.Reading.{◌>>=◌, stop_at, body_at, whole_element, whole_parts, whole_subject, subject_or_fault, element_of, subject_of}
+use Rattle.label_core.specs.Reading.{stop_at, body_at, whole_element, whole_parts, whole_subject, subject_or_fault, element_of, subject_of}
 use Rattle.label_core.specs.Faults.{BeforeElement, BeforePart, IsDigitOf}
 use Rattle.label_core.proofs.StepLemmas.{choice_cases, ok_of, err_not_ok}
 use Rattle.label_core.proofs.FaultPlaceLemmas.{element_to_end, whole_element_is, parts_to_end, whole_parts_is}

@@ -1,5 +1,5 @@
 -- A fault is a form, or a digit stands there of a number of the fault's kind.
-use Rattle.std.proofs.Common.{◌≡◌, ◌⊎◌, inl, inr, ℕ, zero, suc, ◌+◌, ◌-◌, ◌*◌, ◌≤◌, true, false, cond, ◌||◌, eqb, ltb, List, [], ◌∷◌, ◌++◌, length, drop, Result, Ok, Err, refl, sym, ap, subst, ◌∙◌, arith, append_assoc}
+use Rattle.std.proofs.Common.{◌≡◌, ◌⊎◌, inl, inr, ℕ, zero, suc, ◌+◌, ◌-◌, ◌*◌, ◌≤◌, true, cond, ◌||◌, eqb, ltb, List, [], ◌∷◌, ◌++◌, length, drop, Result, Ok, Err, refl, sym, ap, ◌∙◌, arith, append_assoc}
 use Rattle.std.specs.Prelude.{codes, decimal, flat_map}
 use Rattle.std.specs.Char.{is_ascii_digit}
 use Rattle.std.specs.List.{AllByRecursion}
@@ -9,15 +9,13 @@ use Rattle.label_core.specs.declared.fault.LabelKind.{LabelKind}
 use Rattle.label_core.specs.declared.fault.LabelKind.TheVariants as kind
 use Rattle.label_core.specs.declared.fault.Stop.{Stop}
 use Rattle.label_core.specs.CompSet.{IsCompartment, with_number}
-use Rattle.label_core.specs.Subject.{Parts}
 use Rattle.label_core.specs.Reading.{◌>>=◌, stop_at, begins, goes_on, after_literal, after_word, digits_at, number_at, compartments_within, compartments_at, grade_at, body_at, element_at, range_at}
 use Rattle.label_core.specs.Grammar.{Writing, IsWriting, spelled_element}
 use Rattle.label_core.specs.Faults.{NumberAfter, to_grade, to_compartment, BeforePart, before_active, before_low, before_high}
-use Rattle.label_core.proofs.StepLemmas.{choice_cases, ok_of, ok_is, err_not_ok}
-use Rattle.label_core.proofs.NumberLemmas.{TakesNumber, number_takes}
-use Rattle.label_core.proofs.CompartmentLemmas.{compartments_after, compartments_within-suc, compartments_left, compartments_at_left}
+use Rattle.label_core.proofs.StepLemmas.{choice_cases, err_not_ok}
+use Rattle.label_core.proofs.NumberLemmas.{number_takes}
+use Rattle.label_core.proofs.CompartmentLemmas.{compartments_after, compartments_within-suc, compartments_at_left}
 use Rattle.label_core.proofs.SpellingLemmas.{begins_cons, literal_takes, body_takes, element_takes}
-use Rattle.label_core.proofs.LocalFaultLemmas.{Reader, then_read}
 use Rattle.label_core.proofs.FaultPlaceLemmas.{finish, element_to_end, parts_after, parts_to_end}
 
 -- a step's fault is that of the first reader, or that of the second on what the first left

@@ -1,5 +1,5 @@
 -- What readers of numbers take from the front of the bytes.
-use Rattle.std.proofs.Common.{◌≡◌, ◌⊎◌, ℕ, ◌+◌, ◌-◌, ◌*◌, ◌/◌, ◌%◌, ◌^◌, ◌<◌, ◌≤◌, Bool, true, false, cond, ◌||◌, eqb, ltb, List, [], ◌∷◌, ◌++◌, length, Result, Ok, Err, refl, sym, ap, ◌∙◌, arith, inl, inr, append_assoc, length-append, leb, ◌≢◌}
+use Rattle.std.proofs.Common.{◌≡◌, ℕ, ◌+◌, ◌-◌, ◌*◌, ◌/◌, ◌%◌, ◌^◌, ◌<◌, ◌≤◌, Bool, true, false, ◌||◌, eqb, ltb, List, [], ◌∷◌, ◌++◌, length, Result, Ok, Err, refl, sym, ap, ◌∙◌, arith, inl, inr, append_assoc, length-append, leb, ◌≢◌}
 use Rattle.std.specs.Prelude.{IfOk}
 use Rattle.std.specs.Char.{is_ascii_digit}
 use Rattle.std.specs.Fmt.{decimal}
@@ -7,7 +7,7 @@ use Rattle.std.proofs.lemmas.Bool.{or_parts, eqb-false, ltb-false, and_parts, le
 use Rattle.std.proofs.lemmas.Fmt.{decimal_digit, decimal_nonempty}
 use Rattle.label_core.specs.declared.fault.LabelKind.{LabelKind}
 use Rattle.label_core.specs.declared.fault.Stop.{Stop}
-use Rattle.label_core.specs.Reading.{◌>>=◌, Gives, digits_at, number_at}
+use Rattle.label_core.specs.Reading.{Gives, digits_at, number_at}
 use Rattle.label_core.proofs.StepLemmas.{choice_cases, ok_of, ok_is, err_not_ok}
 use Rattle.label_core.proofs.DecimalLemmas.{decimal_more}
 

@@ -1,5 +1,5 @@
 -- Where a digit stands of a number, reading has a fault of the number's kind there, or goes past it.
-use Rattle.std.proofs.Common.{◌≡◌, ◌≢◌, ◌⊎◌, inl, inr, ℕ, ◌+◌, ◌-◌, ◌*◌, ◌<◌, ◌≤◌, true, false, ◌||◌, eqb, ltb, List, [], ◌∷◌, ◌++◌, length, Result, Ok, Err, refl, sym, ap, subst, ◌∙◌, arith, append_assoc, length-append}
+use Rattle.std.proofs.Common.{◌≡◌, ◌≢◌, ◌⊎◌, inl, inr, ℕ, ◌+◌, ◌-◌, ◌*◌, ◌≤◌, true, ◌||◌, eqb, ltb, List, [], ◌∷◌, ◌++◌, length, Result, Ok, Err, refl, sym, ap, subst, ◌∙◌, arith, append_assoc, length-append}
 use Rattle.std.specs.Prelude.{codes, decimal, flat_map}
 use Rattle.std.specs.Char.{is_ascii_digit}
 use Rattle.std.specs.List.{AllByRecursion}
@@ -11,14 +11,14 @@ use Rattle.label_core.specs.declared.fault.LabelKind.TheVariants as kind
 use Rattle.label_core.specs.declared.fault.Stop.{Stop}
 use Rattle.label_core.specs.CompSet.{IsCompartment, with_number}
 use Rattle.label_core.specs.Subject.{Parts}
-use Rattle.label_core.specs.Reading.{◌>>=◌, digits_at, number_at, compartments_at, grade_at, body_at, element_at, range_at}
+use Rattle.label_core.specs.Reading.{◌>>=◌, digits_at, number_at, grade_at, body_at, element_at}
 use Rattle.label_core.specs.Grammar.{Writing, IsWriting, spelled_element, meant_element}
 use Rattle.label_core.specs.Faults.{NumberAfter, to_grade, to_compartment, BeforePart, before_active, before_low, before_high}
 use Rattle.label_core.proofs.NumberLemmas.{digit_range}
 use Rattle.label_core.proofs.CompartmentLemmas.{compartments_left, compartments_left_step, compartments_at_left, compartments_more}
 use Rattle.label_core.proofs.RereadingLemmas.{number_again, grade_from, body_again, ne_43}
 use Rattle.label_core.proofs.LocalFaultLemmas.{Reader, LocalBy, Local, then_read}
-use Rattle.label_core.proofs.FaultPlaceLemmas.{local_digits, after_compartment, local_after_compartment, local_list, after_grade, local_after_grade, finish, local_finish, range_end, range_high, range_dash, range_low, local_range_dash, range_is, local_literal, element_to_end, parts_after, parts_to_end, local_range, local_parts_after}
+use Rattle.label_core.proofs.FaultPlaceLemmas.{local_digits, after_compartment, local_after_compartment, local_list, after_grade, local_after_grade, finish, local_finish, range_end, range_high, range_dash, range_low, local_range_dash, range_is, local_literal, element_to_end, parts_after, parts_to_end, local_parts_after}
 
 -- what a reader leaves of the bytes, or where its fault stands, is among them
 abbrev pub WithinBy : {A : Type 0} → List ℕ → Result (A × List ℕ) Stop → Type 0

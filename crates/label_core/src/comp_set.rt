@@ -4,7 +4,7 @@ ghost use Rattle.label_core.specs.CompSet.{IsCompartment, IsCompSet, has_number,
 
 use std::marker::Model;
 
-/// How many compartments there are. They are numbered from 1.
+/// How many compartments there are, numbered from 1 (mac_mls(4)).
 pub const COMPARTMENTS: u16 = 256;
 
 /// How many bits a word of a set has, one for each compartment.
@@ -71,7 +71,7 @@ impl CompSet {
         CompSet { words: [0; WORDS] }
     }
 
-    /// The set with the compartment `n` too.
+    /// The set with the compartment `n`, 1 to 256, too.
     pub fn with(self, n: u16) -> Self
         requires { IsCompartment n }
         ensures { result ≡ with_number n self }

@@ -44,7 +44,9 @@ impl Element {
     }
 }
 
-/// Whether the first element dominates the second.
+/// Whether the first element dominates the second (mac_mls(4)): where one of them is equal, the first
+/// is high, or the second is low; not where the first is low or the second is high; else where the
+/// first has at least the grade, 0 to 65535, and all the compartments of the second.
 #[tactic(auto, unfolding(crate::specs::Element::dom))]
 pub fn dominates(a: &Element, b: &Element) -> bool
     ensures { result ≡ dom a.now b.now }

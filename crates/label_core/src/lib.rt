@@ -1,8 +1,8 @@
 //! Labels of multi-level security, after FreeBSD's mac_mls(4): elements with a grade and a set of
 //! compartments, dominance among them, the subjects of processes, and the texts of both.
 //!
-//! Which of low, equal and high dominates which, the numbers of the compartments, the short words
-//! and the places of faults are this crate's own. No call takes memory.
+//! Which of low, equal and high dominates which, the numbers of the compartments, and the places and
+//! kinds of faults are this crate's own. No call takes memory.
 #![tactic(auto)]
 
 mod comp_set;

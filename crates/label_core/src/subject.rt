@@ -86,14 +86,14 @@ impl Subject {
     }
 }
 
-/// Whether the element is within the subject's range.
+/// Whether the element is within the subject's range (mac_mls(4)).
 pub fn inside(e: &Element, s: &Subject) -> bool
     ensures { result ≡ inside e.now s.now }
 {
     dominates(&s.high, e) && dominates(e, &s.low)
 }
 
-/// Whether the subject may change the element of an object from `old` to `new`.
+/// Whether the subject may change the element of an object from `old` to `new` (mac_mls(4)).
 ///
 /// Both have to be within its range, and it gives equal only if it has equal itself.
 pub fn may_relabel(s: &Subject, old: &Element, new: &Element) -> bool
@@ -102,7 +102,7 @@ pub fn may_relabel(s: &Subject, old: &Element, new: &Element) -> bool
     inside(old, s) && inside(new, s) && (!new.is_equal() || s.has_equal())
 }
 
-/// Whether a process may change its subject from `old` to `new`.
+/// Whether a process may change its subject from `old` to `new` (mac_mls(4)).
 ///
 /// The three parts of `new` have to be within the old range, and it has equal only if `old` does.
 pub fn may_become(old: &Subject, new: &Subject) -> bool

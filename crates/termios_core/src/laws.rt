@@ -27,5 +27,5 @@ pub fn one_word()
 pub fn limits()
     ensures text { TEXT_ROOM ≡ 4096 }
     ensures termios { TERMIOS_ROOM ≡ 300 }
-    ensures disabled { DISABLED ≡ 255 }
+    ensures disabled_character { DISABLED ≡ 255 }
 {}

@@ -8,6 +8,6 @@ returns c = record {
   mask = inherited_mask;
   group = inherited_group;
   other = inherited_other;
-  named = inherited_named;
+  named_entries = inherited_named;
   group_under_mask = inherited_under_mask;
 }

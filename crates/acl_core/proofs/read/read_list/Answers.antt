@@ -1,4 +1,4 @@
-use Rattle.std.proofs.Common.{sym, ap, ◌∙◌, ◌≡◌, List, ℕ, Result, Ok, Err}
+use Rattle.std.proofs.Common.{sym, ap, ◌∙◌, ◌≡◌, List, Result, Ok, Err}
 use Rattle.acl_core.specs.declared.entry.Entry.{Entry}
 use Rattle.acl_core.specs.Reading.{list_at}
 use Rattle.acl_core.proofs.ListTextLemmas.{list_found, list_again, list_left, fault_place}
