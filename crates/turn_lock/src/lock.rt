@@ -1,5 +1,5 @@
 //! The lock.
-ghost use Rattle.std.specs.Prelude.{◌≡◌, ◌+◌, ◌%◌, ◌^◌, ◌<◌, ◌≤◌, ◌≢◌, [], ◌∷◌, ◌++◌, ℕ, length, All, Some, false, IfOk, IsOk, vec_capacity};
+ghost use Rattle.std.specs.Prelude.{◌≡◌, ◌+◌, ◌%◌, ◌^◌, ◌<◌, ◌≤◌, ◌≢◌, [], ◌∷◌, ◌++◌, ℕ, length, All, sum_by, Some, false, IfOk, IsOk, vec_capacity};
 ghost use mathlib.Core.List.{IsPrefix};
 ghost use Rattle.turn_lock.specs.Passes.{machine_at, fresh_passes, AreAllPasses, HasSeenMine, IsHistory};
 ghost use Rattle.turn_lock.specs.Answers.{TakesTurn, Answers, new_events};
@@ -270,6 +270,8 @@ impl<M: Machine> TurnLock<M> {
         requires { AreAllPasses self passes.items }
         ensures ok { IsOk result }
         ensures history { IfOk result (λ machine. IsHistory self machine passes.items) }
+        // So no event is lost, and none is there twice.
+        ensures count { IfOk result (λ machine. length machine.events ≡ sum_by (λ p. length p.mine) passes.items) }
     {
         let (_, keeper) = self.table.shared.load_new_seat::<Come>(COUNT);
         let keeper = self.gather(keeper, passes);
