@@ -261,8 +261,9 @@ impl<M: Machine> TurnLock<M> {
     ///
     /// The passes are all that were made, in the order of their numbers. There is one history,
     /// whose events are those of the machine, of which each pass has seen a prefix, and whose
-    /// entries of each number are the events that its pass entered. It needs no memory, so the
-    /// answer is always `Ok`; an `Err` would hand the lock and the passes back as they were.
+    /// entries of each number are the events that its pass entered; so the machine has as many
+    /// events as all passes entered. It needs no memory, so the answer is always `Ok`; an `Err`
+    /// would hand the lock and the passes back as they were.
     pub fn close(
         self,
         passes: Vec<Pass<M>>,

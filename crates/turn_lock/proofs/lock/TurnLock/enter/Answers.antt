@@ -1,6 +1,9 @@
-use Rattle.std.proofs.Common.{ap}
+use Rattle.std.proofs.Common.{rules, ap}
 use Rattle.turn_lock.proofs.TurnLemmas.{steps, sees_mine, takes_turn}
 use Rattle.turn_lock.proofs.lock.TurnLock.enter.Goals as goal
+
+pub ask-turn-requires-clause-turn : goal.ask-turn-requires-clause-turn
+ask-turn-requires-clause-turn g c = search rules
 
 pub returns-clause-turn : goal.returns-clause-turn
 returns-clause-turn g c =
