@@ -48,19 +48,19 @@ module _ {E : Type 0} where
       ap events_of (filter-append of_number xs ys) ∙ events_of-append (filter of_number xs) (filter of_number ys)
 
   -- what is kept of the entries of one number
-  abbrev kept : ℕ → ℕ → List E → List (Entry E)
-  kept number other events = filter (λ (e : Entry E). eqb e.number other) (entries number events)
+  abbrev those_of : ℕ → ℕ → List E → List (Entry E)
+  those_of number other events = filter (λ (e : Entry E). eqb e.number other) (entries number events)
 
   pub events_by-entries : (number : ℕ) (events : List E) → events_by number (entries number events) ≡ events
   events_by-entries number [] = refl
   events_by-entries number (e ∷ es) =
-      ap (λ b. events_of (cond b (entry number e ∷ kept number number es) (kept number number es))) (eq-eqb number number refl)
+      ap (λ b. events_of (cond b (entry number e ∷ those_of number number es) (those_of number number es))) (eq-eqb number number refl)
       ∙ ap (λ l. e ∷ l) (events_by-entries number es)
 
   pub events_by-others : (number other : ℕ) (events : List E) → number ≢ other → events_by other (entries number events) ≡ []
   events_by-others number other [] apart = refl
   events_by-others number other (e ∷ es) apart =
-      ap (λ b. events_of (cond b (entry number e ∷ kept number other es) (kept number other es))) (ne_eqb number other apart)
+      ap (λ b. events_of (cond b (entry number e ∷ those_of number other es) (those_of number other es))) (ne_eqb number other apart)
       ∙ events_by-others number other es apart
 
   pub below-append : (passes : ℕ) (xs ys : List (Entry E)) → AreBelow passes xs → AreBelow passes ys → AreBelow passes (xs ++ ys)

@@ -5,3 +5,4 @@ pub mod SeatLemmas
 pub mod TurnLemmas
 pub mod TableLemmas
 pub mod PassLemmas
+pub mod CountLemmas

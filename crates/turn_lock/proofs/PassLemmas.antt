@@ -19,7 +19,7 @@ use Rattle.turn_lock.specs.declared.rule.SeatView.{SeatView}
 use Rattle.turn_lock.specs.Histories.{events_by, AreBelow}
 use Rattle.turn_lock.specs.Passes.{LockView, PassView, machine_at, fresh_pass, fresh_passes, AreAllPasses, Fits, IsHistory}
 use Rattle.turn_lock.specs.Rule.{claim, ClaimsHold, fresh_claims, other_claims, LockRule}
-use Rattle.turn_lock.specs.Steps.{Sat, with_claims, both_views}
+use Rattle.turn_lock.specs.Steps.{SeatState, with_claims, both_views}
 use Rattle.turn_lock.specs.Seats.{first_number, first_mine, lock_at, pass_of, first_pass, IsFree, Covers}
 use Rattle.turn_lock.proofs.HistoryLemmas.{prefix_trans}
 use Rattle.turn_lock.proofs.SeatLemmas.{one_claim}
@@ -34,14 +34,14 @@ has_first cs one = subst (λ l. Contains l (claim (first_number cs) (first_mine 
 module _ {Root E : Type 0} where
   -- passes of a lock were made of its first seat, and the rest of that has the other numbers
   pub record Deals (lock : LockView Root) (first rest : Seat (Trail Root E) (SeatView (Trail Root E) E)) (number : ℕ)
-      (made : List (PassView Root E)) : Type 0 where
+      (front : List (PassView Root E)) : Type 0 where
     pub same_table : rest.table_id ≡ first.table_id
     pub same_setup : rest.me.0.setup ≡ first.me.0.setup
     pub free : IsFree rest.me
     pub nothing_seen : rest.me.0.seen ≡ []
     pub claims : rest.me.0.claims ≡ fresh_claims number (lock.passes - number)
-    pub all : made ++ map (fresh_pass lock) (range_with_len number (lock.passes - number)) ≡ fresh_passes lock
-    pub long : length made ≡ number
+    pub all : front ++ map (fresh_pass lock) (range_with_len number (lock.passes - number)) ≡ fresh_passes lock
+    pub long : length front ≡ number
 
   pub deals_none : (lock : LockView Root) (first : Seat (Trail Root E) (SeatView (Trail Root E) E)) → IsFree first.me
       → first.me.0.claims ≡ fresh_claims 0 lock.passes → first.me.0.seen ≡ [] → Deals lock first first 0 []
@@ -57,41 +57,41 @@ module _ {Root E : Type 0} where
       }
 
   pub some_left : (lock : LockView Root) (first rest : Seat (Trail Root E) (SeatView (Trail Root E) E)) (number : ℕ)
-      (made : List (PassView Root E)) → Deals lock first rest number made → number < lock.passes → 0 < length rest.me.0.claims
-  some_left lock first rest number made d more =
+      (front : List (PassView Root E)) → Deals lock first rest number front → number < lock.passes → 0 < length rest.me.0.claims
+  some_left lock first rest number front d more =
       let range = range_step number lock.passes more in
       let a = ap length (d.claims ∙ ap (map (λ n. claim {E = E} n [])) range) in omega arith
 
   pub deals_one : (lock : LockView Root) (first rest rest' : Seat (Trail Root E) (SeatView (Trail Root E) E)) (number : ℕ)
-      (made : List (PassView Root E)) (pass : PassView Root E) → Deals lock first rest number made → number < lock.passes
+      (front : List (PassView Root E)) (pass : PassView Root E) → Deals lock first rest number front → number < lock.passes
       → rest'.table_id ≡ rest.table_id → rest'.me ≡ (with_claims (other_claims rest.me.0.claims) rest.me.0, [])
-      → pass ≡ first_pass lock rest.me.0 → Deals lock first rest' (number + 1) (made ++ pass ∷ [])
-  deals_one lock first rest rest' number made pass d more same is made_is =
+      → pass ≡ first_pass lock rest.me.0 → Deals lock first rest' (number + 1) (front ++ pass ∷ [])
+  deals_one lock first rest rest' number front pass d more same is pass_is =
       let range = range_step number lock.passes more in
       let claims = d.claims ∙ ap (map (λ n. claim {E = E} n [])) range in
       let others = lock.passes - (number + 1) in
       let new : pass ≡ fresh_pass lock number =
-      made_is ∙ λ j. record { lock = Some lock; number = first_number (claims j); seen = d.nothing_seen j; mine = first_mine (claims j) } in record {
+      pass_is ∙ λ j. record { lock = Some lock; number = first_number (claims j); seen = d.nothing_seen j; mine = first_mine (claims j) } in record {
         same_table = same ∙ d.same_table;
-        same_setup = ap (λ (m : Sat Root E). m.0.setup) is ∙ d.same_setup;
+        same_setup = ap (λ (m : SeatState Root E). m.0.setup) is ∙ d.same_setup;
         free = record {
-          no_ticket = ap (λ (m : Sat Root E). m.0.tickets) is ∙ d.free.no_ticket;
-          no_machine = ap (λ (m : Sat Root E). m.0.has_machine) is ∙ d.free.no_machine;
-          no_slot = ap (λ (m : Sat Root E). m.1) is;
+          no_ticket = ap (λ (m : SeatState Root E). m.0.tickets) is ∙ d.free.no_ticket;
+          no_machine = ap (λ (m : SeatState Root E). m.0.has_machine) is ∙ d.free.no_machine;
+          no_slot = ap (λ (m : SeatState Root E). m.1) is;
         };
-        nothing_seen = ap (λ (m : Sat Root E). m.0.seen) is ∙ d.nothing_seen;
-        claims = ap (λ (m : Sat Root E). m.0.claims) is ∙ ap other_claims claims;
-        all = append_assoc made (pass ∷ []) (map (fresh_pass lock) (range_with_len (number + 1) others))
-            ∙ (ap (λ p. made ++ p ∷ map (fresh_pass lock) (range_with_len (number + 1) others)) new
-            ∙ (ap (λ l. made ++ map (fresh_pass lock) l) (sym range) ∙ d.all));
-        long = let a = length-append made (pass ∷ []) in let b = d.long in omega arith;
+        nothing_seen = ap (λ (m : SeatState Root E). m.0.seen) is ∙ d.nothing_seen;
+        claims = ap (λ (m : SeatState Root E). m.0.claims) is ∙ ap other_claims claims;
+        all = append_assoc front (pass ∷ []) (map (fresh_pass lock) (range_with_len (number + 1) others))
+            ∙ (ap (λ p. front ++ p ∷ map (fresh_pass lock) (range_with_len (number + 1) others)) new
+            ∙ (ap (λ l. front ++ map (fresh_pass lock) l) (sym range) ∙ d.all));
+        long = let a = length-append front (pass ∷ []) in let b = d.long in omega arith;
       }
 
   pub deals_all : (lock : LockView Root) (first rest : Seat (Trail Root E) (SeatView (Trail Root E) E)) (number : ℕ)
-      (made : List (PassView Root E)) → Deals lock first rest number made → lock.passes ≤ number → made ≡ fresh_passes lock
-  deals_all lock first rest number made d end =
+      (front : List (PassView Root E)) → Deals lock first rest number front → lock.passes ≤ number → front ≡ fresh_passes lock
+  deals_all lock first rest number front d end =
       let none : 0 ≡ lock.passes - number = omega arith in
-      sym (append-nil made) ∙ (ap (λ n. made ++ map (fresh_pass lock) (range_with_len number n)) none ∙ d.all)
+      sym (append-nil front) ∙ (ap (λ n. front ++ map (fresh_pass lock) (range_with_len number n)) none ∙ d.all)
 
   -- as many passes were made as their numbers say
   pub as_many : (lock : LockView Root) (passes : List (PassView Root E)) → AreAllPasses lock passes → length passes ≡ lock.passes
@@ -149,7 +149,7 @@ module _ {Root E : Type 0} where
       → IsPrefix keeper.me.0.seen keeper'.me.0.seen → IsPrefix seat.me.0.seen keeper'.me.0.seen
       → keeper'.me ≡ (record (both_views keeper.me.0 seat.me.0) { seen = keeper'.me.0.seen }, []) → Gathers lock first keeper' all front
   gathers_one lock first keeper keeper' seat all left front p d is table id by one more theirs me_is =
-      let claims : keeper'.me.0.claims ≡ keeper.me.0.claims ++ seat.me.0.claims = ap (λ (m : Sat Root E). m.0.claims) me_is in
+      let claims : keeper'.me.0.claims ≡ keeper.me.0.claims ++ seat.me.0.claims = ap (λ (m : SeatState Root E). m.0.claims) me_is in
       let saw : IsPrefix p.seen keeper'.me.0.seen = subst (λ (x : PassView Root E). IsPrefix x.seen keeper'.me.0.seen) by theirs in
       let has : Contains seat.me.0.claims (claim p.number p.mine) =
       subst (λ (x : PassView Root E). Contains seat.me.0.claims (claim x.number x.mine)) by (has_first seat.me.0.claims one) in
@@ -157,8 +157,8 @@ module _ {Root E : Type 0} where
       let before = covers_more keeper.me.0.seen keeper'.me.0.seen keeper.me.0.claims seat.me.0.claims d.others more d.covers in record {
         same_table = table ∙ d.same_table;
         same_id = id ∙ d.same_id;
-        no_machine = ap (λ (m : Sat Root E). m.0.has_machine) me_is ∙ d.no_machine;
-        no_slot = ap (λ (m : Sat Root E). m.1) me_is;
+        no_machine = ap (λ (m : SeatState Root E). m.0.has_machine) me_is ∙ d.no_machine;
+        no_slot = ap (λ (m : SeatState Root E). m.1) me_is;
         others = p ∷ d.others;
         all_is = d.all_is ∙ (ap (λ l. l ++ d.others) is ∙ append_assoc front (p ∷ []) d.others);
         covers = subst (λ cs. Covers keeper'.me.0.seen cs (p ∷ d.others)) (sym claims)

@@ -14,7 +14,7 @@ use Rattle.turn_lock.specs.declared.rule.SeatView.{SeatView}
 use Rattle.turn_lock.specs.Histories.{entries, events_of}
 use Rattle.turn_lock.specs.Passes.{LockView, machine_at}
 use Rattle.turn_lock.specs.Rule.{claim, machine_after, LockRule, ClaimsHold}
-use Rattle.turn_lock.specs.Steps.{Sat, with_ticket, with_machine, with_events, TakesMachine, CountsEvents, PassesTurn}
+use Rattle.turn_lock.specs.Steps.{SeatState, with_ticket, with_machine, with_events, TakesMachine, CountsEvents, PassesTurn}
 use Rattle.turn_lock.specs.Seats.{first_number, first_mine, lock_at, HasTurn}
 use Rattle.turn_lock.proofs.HistoryLemmas.{drop-append, events_of-append, events_of-entries, length-events_of}
 use Rattle.turn_lock.proofs.StepLemmas.{counts, passes_on}
@@ -61,12 +61,12 @@ module _ {Root E : Type 0} where
       let is : lock_at table s ≡ lock = cc in subst (λ (l : LockView Root). P (machine_at l history)) (sym is) by
 
   -- what a seat has once it took the machine
-  pub took : (table : TableId) (lock : LockView Root) (v : SeatView (Trail Root E) E) (ticket : ℕ) (m m' : Sat Root E)
+  pub takes_out : (table : TableId) (lock : LockView Root) (v : SeatView (Trail Root E) E) (ticket : ℕ) (m m' : SeatState Root E)
       → option_map (lock_at table) v.setup ≡ Some lock → m ≡ (with_ticket ticket v, []) → TakesMachine m m'
       → IsPrefix v.seen m'.0.seen × ClaimsHold m'.0.seen v.claims
       × (m' ≡ (with_machine m'.0.seen (with_ticket ticket v), (0, machine_at lock m'.0.seen) ∷ []))
-  took table lock v ticket m m' of is takes =
-      let t = subst (λ (x : Sat Root E). TakesMachine x m') is takes in
+  takes_out table lock v ticket m m' of is takes =
+      let t = subst (λ (x : SeatState Root E). TakesMachine x m') is takes in
       let all : t.0 ≡ m'.0.seen = sym (ap (λ (x : SeatView (Trail Root E) E). x.seen) t.3) in
       let slot : m'.1 ≡ (0, machine_at lock t.0) ∷ [] = machine_by_lock table v.setup lock t.0 (λ x. m'.1 ≡ (0, x) ∷ []) of t.4 in (
         subst (IsPrefix v.seen) all t.1,
@@ -78,7 +78,7 @@ module _ {Root E : Type 0} where
       )
 
   -- the machine that took the events of what was seen is given back
-  pub passes_turn : (setup : Setup (Trail Root E)) (slots id : ℕ) (m : Sat Root E) (table : TableId) (lock : LockView Root)
+  pub passes_turn : (setup : Setup (Trail Root E)) (slots id : ℕ) (m : SeatState Root E) (table : TableId) (lock : LockView Root)
       → option_map (lock_at table) m.0.setup ≡ Some lock → HasTurn lock m
       → Allows (LockRule setup) slots id m 1 (λ n. (n + 1) % 2 ^ 64) (PassesTurn (step slots 1 1 0 maybe.none) m)
   passes_turn setup slots id m table lock of turn =
@@ -117,30 +117,30 @@ module _ {Root E : Type 0} where
       ∙ ap (λ l. events_of v.seen ++ l) (events_of-entries (first_number cs) events))
 
   -- a seat in its turn, whose machine took some events
-  pub record HasAsked (lock : LockView Root) (m : Sat Root E) (old new : Trail Root E) (events : List E) : Type 0 where
+  pub record HasAsked (lock : LockView Root) (m : SeatState Root E) (old new : Trail Root E) (events : List E) : Type 0 where
     pub turn : HasTurn lock m
     pub old_is : m.1 ≡ (0, old) ∷ rest m.1
     pub new_is : new ≡ record old { events = old.events ++ events }
 
-  pub has_asked : (lock : LockView Root) (m : Sat Root E) (old new : Trail Root E) (events : List E) → HasTurn lock m
+  pub has_asked : (lock : LockView Root) (m : SeatState Root E) (old new : Trail Root E) (events : List E) → HasTurn lock m
       → m.1 ≡ (0, old) ∷ rest m.1 → new ≡ record old { events = old.events ++ events } → HasAsked lock m old new events
   has_asked lock m old new events turn old_is new_is = record { turn = turn; old_is = old_is; new_is = new_is }
 
-  pub old_machine : (lock : LockView Root) (m : Sat Root E) (old new : Trail Root E) (events : List E) → HasAsked lock m old new events
+  pub old_machine : (lock : LockView Root) (m : SeatState Root E) (old new : Trail Root E) (events : List E) → HasAsked lock m old new events
       → old ≡ machine_at lock m.0.seen
   old_machine lock m old new events a = in_slot m.1 (machine_at lock m.0.seen) old a.turn.slot a.old_is
 
-  new_machine : (lock : LockView Root) (m : Sat Root E) (old new : Trail Root E) (events : List E) → HasAsked lock m old new events
+  new_machine : (lock : LockView Root) (m : SeatState Root E) (old new : Trail Root E) (events : List E) → HasAsked lock m old new events
       → new ≡ record (machine_at lock m.0.seen) { events = events_of m.0.seen ++ events }
   new_machine lock m old new events a =
       a.new_is ∙ ap (λ (x : Trail Root E). record x { events = x.events ++ events }) (old_machine lock m old new events a)
 
-  new_slot : (lock : LockView Root) (m : Sat Root E) (old new : Trail Root E) (events : List E) → HasAsked lock m old new events
-      → ◌≡◌ {A = Sat Root E} (m.0, (0, new) ∷ rest m.1) (m.0, (0, new) ∷ [])
+  new_slot : (lock : LockView Root) (m : SeatState Root E) (old new : Trail Root E) (events : List E) → HasAsked lock m old new events
+      → ◌≡◌ {A = SeatState Root E} (m.0, (0, new) ∷ rest m.1) (m.0, (0, new) ∷ [])
   new_slot lock m old new events a = ap (λ (cs : List (ℕ × Trail Root E)). (m.0, (0, new) ∷ rest cs)) a.turn.slot
 
   -- they are counted
-  pub counts_new : (setup : Setup (Trail Root E)) (slots id : ℕ) (lock : LockView Root) (m : Sat Root E) (old new : Trail Root E)
+  pub counts_new : (setup : Setup (Trail Root E)) (slots id : ℕ) (lock : LockView Root) (m : SeatState Root E) (old new : Trail Root E)
       (events : List E) (before after k : ℕ) → HasAsked lock m old new events → before ≡ length old.events → after ≡ length new.events
       → k ≡ after - before → length new.events < 2 ^ 64
       → Allows (LockRule setup) slots id (m.0, (0, new) ∷ rest m.1) 2 (λ n. (n + k) % 2 ^ 64)
@@ -150,22 +150,22 @@ module _ {Root E : Type 0} where
       let events_are : new.events ≡ old.events ++ events = ap (λ (x : Trail Root E). x.events) a.new_is in
       let long : k ≡ length events = let l = ap length events_are in let b = length-append old.events events in omega arith in
       let took = ap (λ (x : Trail Root E). x.events) (new_machine lock m old new events a) in
-      subst (λ (x : Sat Root E). Allows (LockRule setup) slots id x 2 (λ n. (n + k) % 2 ^ 64) (CountsEvents (step slots 2 k 0 maybe.none) x))
+      subst (λ (x : SeatState Root E). Allows (LockRule setup) slots id x 2 (λ n. (n + k) % 2 ^ 64) (CountsEvents (step slots 2 k 0 maybe.none) x))
       there
       (counts setup slots id (first_number m.0.claims) (first_mine m.0.claims) events (m.0, (0, new) ∷ []) new k a.turn.has_machine
       (one_claim m.0.claims a.turn.one_number) refl took long room)
 
   -- and then the seat is in its turn still
-  pub turn_goes_on : (lock : LockView Root) (m m' : Sat Root E) (old new : Trail Root E) (events : List E) → HasAsked lock m old new events
+  pub turn_goes_on : (lock : LockView Root) (m m' : SeatState Root E) (old new : Trail Root E) (events : List E) → HasAsked lock m old new events
       → m' ≡ (with_events (drop (length m.0.seen) new.events) m.0.claims m.0, (0, new) ∷ rest m.1)
       → (m'.0 ≡ with_events events m.0.claims m.0) × HasTurn lock m'
   turn_goes_on lock m m' old new events a counted =
       let v : SeatView (Trail Root E) E = m.0 in
       let took = new_machine lock m old new events a in
       let all = ap (λ (x : Trail Root E). drop (length v.seen) x.events) took ∙ since-append v.seen events in
-      let slot = ap (λ (x : Sat Root E). x.1) (new_slot lock m old new events a) in
+      let slot = ap (λ (x : SeatState Root E). x.1) (new_slot lock m old new events a) in
       let there : m' ≡ (with_events events v.claims v, (0, new) ∷ []) = counted ∙ λ j. (with_events (all j) v.claims v, slot j) in (
-        ap (λ (x : Sat Root E). x.0) there,
+        ap (λ (x : SeatState Root E). x.0) there,
         subst (HasTurn lock) (sym there) record {
           one_number = ap length (claims-with_events events v.claims v a.turn.one_number);
           has_machine = machine-with_events events v.claims v ∙ a.turn.has_machine;

@@ -20,7 +20,7 @@ use Rattle.turn_lock.specs.declared.rule.Claim.{Claim}
 use Rattle.turn_lock.specs.declared.rule.SeatView.{SeatView}
 use Rattle.turn_lock.specs.Histories.{entries, events_of, events_by}
 use Rattle.turn_lock.specs.Rule.{claim, numbers_of, ClaimsHold, machine_after, Agrees, IsOut, LockRule}
-use Rattle.turn_lock.specs.Steps.{Sat, with_ticket, with_machine, with_events, after_turn, events_since, TakesMachine, DrawsTicket, LooksForTurn, CountsEvents, PassesTurn}
+use Rattle.turn_lock.specs.Steps.{SeatState, with_ticket, with_machine, with_events, after_turn, events_since, TakesMachine, DrawsTicket, LooksForTurn, CountsEvents, PassesTurn}
 use Rattle.turn_lock.proofs.SumLemmas.{sum-set, sum-same, sum-one, sum-two, sum-le, at_only, once, at_only-here, sum-once, sum-once-range, sum-range-more, one_at_most, in_range}
 use Rattle.turn_lock.proofs.HistoryLemmas.{prefix_self, prefix_more, drop-append, length-entries, length-events_of, below-append, below-entries, claims-nil, claims-cons, claims-head, claim_more, claims_stay}
 
@@ -67,28 +67,28 @@ module _ {Root E : Type 0} (setup : Setup (Trail Root E)) where
   no_two s k i j ticket v u apart at to has too =
       let sum = k.tickets (at_only ticket) in
       let two = sum-two (λ (x : V). sum_by (at_only ticket) x.tickets) s.views i j v u apart at to in
-      let one = one_at_most ticket k.served k.waiting in
+      let one = one_at_most ticket k.serving k.queue in
       let here = at_only-here ticket in
       let first : sum_by (at_only ticket) v.tickets ≡ 0 + at_only ticket ticket = ap (sum_by (at_only ticket)) has in
       let second : sum_by (at_only ticket) u.tickets ≡ 0 + at_only ticket ticket = ap (sum_by (at_only ticket)) too in
       omega arith
 
   -- a ticket that stands in a view was drawn and is not served yet
-  drawn : (s : St) (k : LockRule setup s) (i ticket : ℕ) (v : V) → get_elem? s.views i ≡ some v → v.tickets ≡ ticket ∷ []
-      → (k.served ≤ ticket) × (ticket < k.served + k.waiting)
-  drawn s k i ticket v at has =
+  ticket_range : (s : St) (k : LockRule setup s) (i ticket : ℕ) (v : V) → get_elem? s.views i ≡ some v → v.tickets ≡ ticket ∷ []
+      → (k.serving ≤ ticket) × (ticket < k.serving + k.queue)
+  ticket_range s k i ticket v at has =
       let sum = k.tickets (at_only ticket) in
       let some_there = sum-one (λ (x : V). sum_by (at_only ticket) x.tickets) s.views i v at in
       let here = at_only-here ticket in
       let first : sum_by (at_only ticket) v.tickets ≡ 0 + at_only ticket ticket = ap (sum_by (at_only ticket)) has in
-      in_range ticket k.served k.waiting (omega arith)
+      in_range ticket k.serving k.queue (omega arith)
 
   -- no more wait than there are passes
-  few_wait : (s : St) (k : LockRule setup s) → k.waiting ≤ setup.passes
+  few_wait : (s : St) (k : LockRule setup s) → k.queue ≤ setup.passes
   few_wait s k =
       let tickets = k.tickets once in
       let numbers = k.numbers once in
-      let waiting = sum-once-range k.served k.waiting in
+      let queue = sum-once-range k.serving k.queue in
       let passes = sum-once-range 0 setup.passes in
       let less = sum-le (λ (x : V). sum_by once x.tickets) (λ (x : V). sum_by once (numbers_of x.claims)) s.views (λ j u at.
       let few = (k.views j u at).few in
@@ -97,11 +97,11 @@ module _ {Root E : Type 0} (setup : Setup (Trail Root E)) where
       let c = length-map u.claims (λ (x : Claim E). x.number) in omega arith) in
       omega arith
 
-  pub draws : (slots id : ℕ) (m : Sat Root E) → m.0.tickets ≡ [] → m.0.has_machine ≡ false → length m.0.claims ≡ 1
+  pub draws : (slots id : ℕ) (m : SeatState Root E) → m.0.tickets ≡ [] → m.0.has_machine ≡ false → length m.0.claims ≡ 1
       → Allows (LockRule setup) slots id m 0 (λ n. (n + 1) % 2 ^ 64) (DrawsTicket (step slots 0 1 0 maybe.none) m)
   draws slots id m free without one s k _ at _ =
       let v : V = m.0 in
-      let ticket : ℕ = k.served + k.waiting in
+      let ticket : ℕ = k.serving + k.queue in
       let w : V = with_ticket ticket v in
       let mine = k.views id v at in (
         w,
@@ -109,18 +109,18 @@ module _ {Root E : Type 0} (setup : Setup (Trail Root E)) where
         tt,
         record {
           history = k.history;
-          served = k.served;
-          waiting = suc k.waiting;
-          words = ap (λ ws. set ws 0 ((get_or ws 0 0 + 1) % 2 ^ 64)) k.words ∙ ap (λ n. n ∷ k.served % 2 ^ 64 ∷ length k.history ∷ []) (omega arith);
+          serving = k.serving;
+          queue = suc k.queue;
+          words = ap (λ ws. set ws 0 ((get_or ws 0 0 + 1) % 2 ^ 64)) k.words ∙ ap (λ n. n ∷ k.serving % 2 ^ 64 ∷ length k.history ∷ []) (omega arith);
           numbers = λ h. sum-same (λ (x : V). sum_by h (numbers_of x.claims)) s.views id v w at refl ∙ k.numbers h;
           tickets = λ h.
               let changed = sum-set (λ (x : V). sum_by h x.tickets) s.views id v w at in
               let before = k.tickets h in
               let none : sum_by h v.tickets ≡ 0 = ap (sum_by h) free in
-              let more = sum-range-more h k.served k.waiting in
+              let more = sum-range-more h k.serving k.queue in
               omega arith;
           below = k.below;
-          views = each_set (Agrees setup k.history k.served s.homes) s.views id w
+          views = each_set (Agrees setup k.history k.serving s.homes) s.views id w
               record {
                 setup_is = mine.setup_is;
                 claims = mine.claims;
@@ -146,7 +146,7 @@ module _ {Root E : Type 0} (setup : Setup (Trail Root E)) where
 
   -- the seat whose turn it is finds the machine at home
   at_home : (s : St) (k : LockRule setup s) (id : ℕ) (v : V) → get_elem? s.views id ≡ some v → v.has_machine ≡ false
-      → v.tickets ≡ k.served ∷ [] → s.homes ≡ some (machine_after setup k.history) ∷ []
+      → v.tickets ≡ k.serving ∷ [] → s.homes ≡ some (machine_after setup k.history) ∷ []
   at_home s k id v at without turn = ⊎_elim
       (λ home. home)
       (λ (out : IsOut s.views). dite (ℕ_discrete out.0 id)
@@ -155,7 +155,7 @@ module _ {Root E : Type 0} (setup : Setup (Trail Root E)) where
       absurd (not_both (sym without ∙ (ap (λ (x : V). x.has_machine) is ∙ out.3))))
       (λ apart.
       let theirs = (k.views out.0 out.1 out.2).serves out.3 in
-      absurd (no_two s k id out.0 k.served v out.1 (λ same. apart (sym same)) at out.2 turn theirs.turn)))
+      absurd (no_two s k id out.0 k.serving v out.1 (λ same. apart (sym same)) at out.2 turn theirs.turn)))
       k.machine
 
   -- the setup that a view has is the lock's
@@ -163,8 +163,8 @@ module _ {Root E : Type 0} (setup : Setup (Trail Root E)) where
   same_setup None P is here = tt
   same_setup (Some x) P is here = subst P (sym is) here
 
-  takes_it : (slots id : ℕ) (m : Sat Root E) (ticket : ℕ) (s : St) (k : LockRule setup s) → m.0.tickets ≡ ticket ∷ []
-      → m.0.has_machine ≡ false → get_elem? s.views id ≡ some m.0 → ticket ≡ k.served
+  takes_it : (slots id : ℕ) (m : SeatState Root E) (ticket : ℕ) (s : St) (k : LockRule setup s) → m.0.tickets ≡ ticket ∷ []
+      → m.0.has_machine ≡ false → get_elem? s.views id ≡ some m.0 → ticket ≡ k.serving
       → (w : V) × (a : Act (Trail Root E)) × Valid s.homes m.1 a × LockRule setup (stepped s 1 (get_or s.words 1 0) id m.1 w a)
       × TakesMachine m (w, carried_after m.1 a)
   takes_it slots id m ticket s k has without at turn =
@@ -172,7 +172,7 @@ module _ {Root E : Type 0} (setup : Setup (Trail Root E)) where
       let mine = k.views id v at in
       let w : V = with_machine k.history v in
       let machine : Trail Root E = machine_after setup k.history in
-      let turned : v.tickets ≡ k.served ∷ [] = has ∙ ap (λ t. t ∷ []) turn in
+      let turned : v.tickets ≡ k.serving ∷ [] = has ∙ ap (λ t. t ∷ []) turn in
       let home = at_home s k id v at without turned in
       let out : set s.homes 0 maybe.none ≡ maybe.none ∷ [] = ap (λ hs. set hs 0 maybe.none) home in (
         w,
@@ -181,13 +181,13 @@ module _ {Root E : Type 0} (setup : Setup (Trail Root E)) where
         subst (λ (ws : List ℕ). LockRule setup record { words = ws; homes = set s.homes 0 maybe.none; views = set s.views id w })
             (sym (set-get_or s.words 1 0)) record {
               history = k.history;
-              served = k.served;
-              waiting = k.waiting;
+              serving = k.serving;
+              queue = k.queue;
               words = k.words;
               numbers = λ h. sum-same (λ (x : V). sum_by h (numbers_of x.claims)) s.views id v w at refl ∙ k.numbers h;
               tickets = λ h. sum-same (λ (x : V). sum_by h x.tickets) s.views id v w at refl ∙ k.tickets h;
               below = k.below;
-              views = each_set (Agrees setup k.history k.served (set s.homes 0 maybe.none)) s.views id w
+              views = each_set (Agrees setup k.history k.serving (set s.homes 0 maybe.none)) s.views id w
                   record {
                     setup_is = mine.setup_is;
                     claims = mine.claims;
@@ -204,7 +204,7 @@ module _ {Root E : Type 0} (setup : Setup (Trail Root E)) where
                     single = theirs.single;
                     seen = theirs.seen;
                     other_seen = theirs.other_seen;
-                    serves = λ e. absurd (no_two s k id j k.served v u (λ same. apart (sym same)) at to turned (theirs.serves e).turn);
+                    serves = λ e. absurd (no_two s k id j k.serving v u (λ same. apart (sym same)) at to turned (theirs.serves e).turn);
                   });
               machine = inr (id, w, set_there s.views id w v at, refl);
               bound = k.bound;
@@ -219,18 +219,18 @@ module _ {Root E : Type 0} (setup : Setup (Trail Root E)) where
         ),
       )
 
-  pub looks : (slots id : ℕ) (m : Sat Root E) (ticket : ℕ) → m.0.tickets ≡ ticket ∷ [] → m.0.has_machine ≡ false
+  pub looks : (slots id : ℕ) (m : SeatState Root E) (ticket : ℕ) → m.0.tickets ≡ ticket ∷ [] → m.0.has_machine ≡ false
       → Allows (LockRule setup) slots id m 1 (λ n. n) (LooksForTurn (step slots 1 0 0 maybe.none) m)
   looks slots id m ticket has without s k _ at _ =
       let v : V = m.0 in
-      let range = drawn s k id ticket v at has in
+      let range = ticket_range s k id ticket v at has in
       let few = few_wait s k in
       let bound = k.bound in
-      let found : get_or s.words 1 0 ≡ k.served % 2 ^ 64 = ap (λ ws. get_or ws 1 0) k.words in
+      let found : get_or s.words 1 0 ≡ k.serving % 2 ^ 64 = ap (λ ws. get_or ws 1 0) k.words in
       let same_ticket = λ (t : ℕ) (e : v.tickets ≡ t ∷ []). let is : ticket ∷ [] ≡ t ∷ [] = sym has ∙ e in let same : ticket ≡ t = cc in same in
-      dite (ℕ_discrete (k.served % 2 ^ 64) (ticket % 2 ^ 64))
+      dite (ℕ_discrete (k.serving % 2 ^ 64) (ticket % 2 ^ 64))
       (λ e.
-      let turn : k.served ≡ ticket = one_turn k.served ticket (2 ^ 64) range.0 (omega arith) e in
+      let turn : k.serving ≡ ticket = one_turn k.serving ticket (2 ^ 64) range.0 (omega arith) e in
       let t = takes_it slots id m ticket s k has without at (sym turn) in
       (t.0, t.1, t.2, t.3, λ other is. ((λ _. t.4), λ ne. absurd (ne (found ∙ (e ∙ ap (λ n. n % 2 ^ 64) (same_ticket other is)))))))
       (λ ne. (
@@ -245,12 +245,12 @@ module _ {Root E : Type 0} (setup : Setup (Trail Root E)) where
       ))
 
   -- the seat with the machine is the only one that may be served
-  alone : (s : St) (k : LockRule setup s) (id j : ℕ) (v u : V) → get_elem? s.views id ≡ some v → v.has_machine ≡ true → j ≢ id
+  only_machine : (s : St) (k : LockRule setup s) (id j : ℕ) (v u : V) → get_elem? s.views id ≡ some v → v.has_machine ≡ true → j ≢ id
       → get_elem? s.views j ≡ some u → u.has_machine ≡ true → ⊥
-  alone s k id j v u at has apart to too =
+  only_machine s k id j v u at has apart to too =
       let mine = (k.views id v at).serves has in
       let theirs = (k.views j u to).serves too in
-      no_two s k id j k.served v u (λ same. apart (sym same)) at to mine.turn theirs.turn
+      no_two s k id j k.serving v u (λ same. apart (sym same)) at to mine.turn theirs.turn
 
   -- a number of one view is below the number of passes
   is_below : (s : St) (k : LockRule setup s) (id number : ℕ) (mine : List E) (v : V) → get_elem? s.views id ≡ some v
@@ -264,9 +264,9 @@ module _ {Root E : Type 0} (setup : Setup (Trail Root E)) where
       let range = in_range number 0 setup.passes (omega arith) in omega arith
 
   -- and of no other view
-  elsewhere : (s : St) (k : LockRule setup s) (id j number : ℕ) (mine : List E) (v u : V) → j ≢ id → get_elem? s.views id ≡ some v
+  in_no_other : (s : St) (k : LockRule setup s) (id j number : ℕ) (mine : List E) (v u : V) → j ≢ id → get_elem? s.views id ≡ some v
       → get_elem? s.views j ≡ some u → v.claims ≡ claim number mine ∷ [] → sum_by (at_only number) (numbers_of u.claims) ≡ 0
-  elsewhere s k id j number mine v u apart at to claims =
+  in_no_other s k id j number mine v u apart at to claims =
       let sum = k.numbers (at_only number) in
       let here = at_only-here number in
       let one = one_at_most number 0 setup.passes in
@@ -299,14 +299,14 @@ module _ {Root E : Type 0} (setup : Setup (Trail Root E)) where
       let d = ap length serves.all in omega arith in
       let number_is = is_below s r id number mine v at claims in record {
         history = history;
-        served = r.served;
-        waiting = r.waiting;
+        serving = r.serving;
+        queue = r.queue;
         words = ap (λ ws. set ws 2 ((get_or ws 2 0 + k) % 2 ^ 64)) r.words
-            ∙ ap (λ n. (r.served + r.waiting) % 2 ^ 64 ∷ r.served % 2 ^ 64 ∷ n ∷ []) (omega arith);
+            ∙ ap (λ n. (r.serving + r.queue) % 2 ^ 64 ∷ r.serving % 2 ^ 64 ∷ n ∷ []) (omega arith);
         numbers = λ h. sum-same (λ (x : V). sum_by h (numbers_of x.claims)) s.views id v w at (ap (sum_by h) same_numbers) ∙ r.numbers h;
         tickets = λ h. sum-same (λ (x : V). sum_by h x.tickets) s.views id v w at refl ∙ r.tickets h;
         below = below-append setup.passes r.history (entries number events) r.below (below-entries setup.passes number events number_is);
-        views = each_set (Agrees setup history r.served s.homes) s.views id w
+        views = each_set (Agrees setup history r.serving s.homes) s.views id w
             record {
               setup_is = agrees.setup_is;
               claims = claims-cons history (claim number (mine ++ events)) [] (claim_more r.history number mine events mine_is) (claims-nil history);
@@ -318,18 +318,18 @@ module _ {Root E : Type 0} (setup : Setup (Trail Root E)) where
             }
             (λ j u apart to. let other = r.views j u to in record {
               setup_is = other.setup_is;
-              claims = claims_stay r.history number events u.claims (elsewhere s r id j number mine v u apart at to claims) other.claims;
+              claims = claims_stay r.history number events u.claims (in_no_other s r id j number mine v u apart at to claims) other.claims;
               few = other.few;
               single = other.single;
               seen = prefix_more u.seen r.history (entries number events) other.seen;
               other_seen = prefix_more u.other_seen r.history (entries number events) other.other_seen;
-              serves = λ e. absurd (alone s r id j v u at has apart to e);
+              serves = λ e. absurd (only_machine s r id j v u at has apart to e);
             });
         machine = inr (id, w, set_there s.views id w v at, has);
         bound = r.bound;
       }
 
-  pub counts : (slots id number : ℕ) (mine events : List E) (m : Sat Root E) (machine : Trail Root E) (k : ℕ) → m.0.has_machine ≡ true
+  pub counts : (slots id number : ℕ) (mine events : List E) (m : SeatState Root E) (machine : Trail Root E) (k : ℕ) → m.0.has_machine ≡ true
       → m.0.claims ≡ claim number mine ∷ [] → m.1 ≡ (0, machine) ∷ [] → machine.events ≡ events_of m.0.seen ++ events → k ≡ length events
       → length machine.events < 2 ^ 64
       → Allows (LockRule setup) slots id m 2 (λ n. (n + k) % 2 ^ 64) (CountsEvents (step slots 2 k 0 maybe.none) m)
@@ -348,7 +348,7 @@ module _ {Root E : Type 0} (setup : Setup (Trail Root E)) where
         sym (ap (λ (x : List E × List (Claim E)). (with_events x.0 x.1 v, m.1)) (λ j. (since j, claims j))),
       )
 
-  pub passes_on : (slots id : ℕ) (m : Sat Root E) (machine : Trail Root E) → m.0.has_machine ≡ true → m.1 ≡ (0, machine) ∷ []
+  pub passes_on : (slots id : ℕ) (m : SeatState Root E) (machine : Trail Root E) → m.0.has_machine ≡ true → m.1 ≡ (0, machine) ∷ []
       → IfSome m.0.setup (λ x. machine ≡ machine_after x m.0.seen) → m.0.setup ≢ None
       → Allows (LockRule setup) slots id m 1 (λ n. (n + 1) % 2 ^ 64) (PassesTurn (step slots 1 1 0 maybe.none) m)
   passes_on slots id m machine has slot is there s r _ at _ =
@@ -357,10 +357,10 @@ module _ {Root E : Type 0} (setup : Setup (Trail Root E)) where
       let agrees = r.views id v at in
       let serves = agrees.serves has in
       let machine_is : machine ≡ machine_after setup r.history = whole v.setup v.seen r.history machine there agrees.setup_is is serves.all in
-      let range = drawn s r id r.served v at serves.turn in
-      let left : ℕ = r.waiting - 1 in
-      let one_more : r.waiting ≡ suc left = omega arith in
-      let next : suc r.served ≡ r.served + 1 = omega arith in
+      let range = ticket_range s r id r.serving v at serves.turn in
+      let left : ℕ = r.queue - 1 in
+      let one_more : r.queue ≡ suc left = omega arith in
+      let next : suc r.serving ≡ r.serving + 1 = omega arith in
       let homes : set s.homes 0 (some machine) ≡ some (machine_after setup r.history) ∷ [] =
       ap (λ hs. set hs 0 (some machine)) serves.out ∙ ap (λ x. some x ∷ []) machine_is in (
         w,
@@ -368,20 +368,20 @@ module _ {Root E : Type 0} (setup : Setup (Trail Root E)) where
         tt,
         subst (λ (cs : List (ℕ × Trail Root E)). LockRule setup (stepped s 1 ((get_or s.words 1 0 + 1) % 2 ^ 64) id cs w gives)) (sym slot) record {
           history = r.history;
-          served = suc r.served;
-          waiting = left;
+          serving = suc r.serving;
+          queue = left;
           words = ap (λ ws. set ws 1 ((get_or ws 1 0 + 1) % 2 ^ 64)) r.words
-              ∙ (λ j. (first r.served r.waiting left one_more) j ∷ (second r.served) j ∷ length r.history ∷ []);
+              ∙ (λ j. (first r.serving r.queue left one_more) j ∷ (second r.serving) j ∷ length r.history ∷ []);
           numbers = λ h. sum-same (λ (x : V). sum_by h (numbers_of x.claims)) s.views id v w at refl ∙ r.numbers h;
           tickets = λ h.
               let changed = sum-set (λ (x : V). sum_by h x.tickets) s.views id v w at in
-              let before = r.tickets h ∙ ap (λ n. sum_by h (range_with_len r.served n)) one_more in
-              let mine : sum_by h v.tickets ≡ 0 + h r.served = ap (sum_by h) serves.turn in
-              let range = sum_by-cons h r.served (range_with_len (r.served + 1) left) in
+              let before = r.tickets h ∙ ap (λ n. sum_by h (range_with_len r.serving n)) one_more in
+              let mine : sum_by h v.tickets ≡ 0 + h r.serving = ap (sum_by h) serves.turn in
+              let range = sum_by-cons h r.serving (range_with_len (r.serving + 1) left) in
               let after = ap (λ n. sum_by h (range_with_len n left)) next in
               omega arith;
           below = r.below;
-          views = each_set (Agrees setup r.history (suc r.served) (set s.homes 0 (some machine))) s.views id w
+          views = each_set (Agrees setup r.history (suc r.serving) (set s.homes 0 (some machine))) s.views id w
               record {
                 setup_is = agrees.setup_is;
                 claims = agrees.claims;
@@ -398,7 +398,7 @@ module _ {Root E : Type 0} (setup : Setup (Trail Root E)) where
                 single = other.single;
                 seen = other.seen;
                 other_seen = other.other_seen;
-                serves = λ e. absurd (alone s r id j v u at has apart to e);
+                serves = λ e. absurd (only_machine s r id j v u at has apart to e);
               });
           machine = inl homes;
           bound = r.bound;
@@ -411,8 +411,8 @@ module _ {Root E : Type 0} (setup : Setup (Trail Root E)) where
       whole None seen history x some_setup same fits all = absurd (some_setup refl)
       whole (Some y) seen history x some_setup same fits all = fits ∙ λ j. machine_after (same j) (all j)
 
-      first : (served waiting left : ℕ) → waiting ≡ suc left → (served + waiting) % 2 ^ 64 ≡ (suc served + left) % 2 ^ 64
-      first served waiting left e = ap (λ n. n % 2 ^ 64) (omega arith)
+      first : (serving queue left : ℕ) → queue ≡ suc left → (serving + queue) % 2 ^ 64 ≡ (suc serving + left) % 2 ^ 64
+      first serving queue left e = ap (λ n. n % 2 ^ 64) (omega arith)
 
-      second : (served : ℕ) → (served % 2 ^ 64 + 1) % 2 ^ 64 ≡ suc served % 2 ^ 64
-      second served = omega arith
+      second : (serving : ℕ) → (serving % 2 ^ 64 + 1) % 2 ^ 64 ≡ suc serving % 2 ^ 64
+      second serving = omega arith

@@ -1,5 +1,5 @@
 -- Sums over the views of all seats, and how often a number stands in a range.
-use Rattle.std.proofs.Common.{◌≡◌, ◌≢◌, ℕ, zero, suc, ◌+◌, ◌<◌, ◌≤◌, List, [], ◌∷◌, length, set, cond, eqb, refl, sym, ap, ◌∙◌, arith, eq-eqb, ne_eqb}
+use Rattle.std.proofs.Common.{◌≡◌, ◌≢◌, ℕ, zero, suc, ◌+◌, ◌<◌, ◌≤◌, List, [], ◌∷◌, map, length, set, cond, eqb, refl, sym, ap, ◌∙◌, arith, eq-eqb, ne_eqb}
 use Rattle.std.specs.List.{sum_by, range_with_len}
 use Rattle.std.proofs.lemmas.List.Sums.{sum_by-cons}
 use mathlib.Core.Logic.{dite}
@@ -59,7 +59,7 @@ sum-le f g (x ∷ xs) each =
 
 -- 1 at one number alone
 abbrev pub at_only : ℕ → ℕ → ℕ
-at_only x y = cond (eqb y x) 1 0
+at_only x y = cond (eqb x y) 1 0
 
 -- 1 at each number
 abbrev pub once : ℕ → ℕ
@@ -69,7 +69,7 @@ pub at_only-here : (x : ℕ) → at_only x x ≡ 1
 at_only-here x = ap (λ b. cond b 1 0) (eq-eqb x x refl)
 
 pub at_only-else : (x y : ℕ) → y ≢ x → at_only x y ≡ 0
-at_only-else x y apart = ap (λ b. cond b 1 0) (ne_eqb y x apart)
+at_only-else x y apart = ap (λ b. cond b 1 0) (ne_eqb x y (λ e. apart (sym e)))
 
 pub sum-once : (xs : List ℕ) → sum_by once xs ≡ length xs
 sum-once [] = refl
@@ -106,6 +106,17 @@ one_at_most x first (suc count) =
     (λ e. let here = ap (λ y. at_only x y) e ∙ at_only-here x in let rest = none_below x (first + 1) count (omega arith) in omega arith)
     (λ apart. let here = at_only-else x first apart in let rest = one_at_most x (first + 1) count in omega arith)
 
+-- and it is one of them where it lies between their ends
+pub just_one : (x first count : ℕ) → first ≤ x → x < first + count → sum_by (at_only x) (range_with_len first count) ≡ 1
+just_one x first zero from below = absurd (omega arith)
+just_one x first (suc count) from below =
+    let all = sum_by-cons (at_only x) first (range_with_len (first + 1) count) in
+    dite (ℕ_discrete first x)
+    (λ e. let here = ap (λ y. at_only x y) e ∙ at_only-here x in let rest = none_below x (first + 1) count (omega arith) in omega arith)
+    (λ apart.
+    let here = at_only-else x first apart in
+    let rest = just_one x (first + 1) count (omega arith) (omega arith) in omega arith)
+
 -- where x is one of them, it lies between their ends
 pub in_range : (x first count : ℕ) → 0 < sum_by (at_only x) (range_with_len first count) → (first ≤ x) × (x < first + count)
 in_range x first zero some_there = absurd (omega arith)
@@ -116,3 +127,22 @@ in_range x first (suc count) some_there =
     (λ apart.
     let here = at_only-else x first apart in
     let rest = in_range x (first + 1) count (omega arith) in (omega arith, omega arith))
+
+pub sum-zero : {X : Type 0} (xs : List X) → sum_by (λ _. 0) xs ≡ 0
+sum-zero [] = refl
+sum-zero (x ∷ xs) = let rest = sum-zero xs in let all = sum_by-cons (λ _. 0) x xs in omega arith
+
+pub sum-both : (f g : ℕ → ℕ) (xs : List ℕ) → sum_by (λ x. f x + g x) xs ≡ sum_by f xs + sum_by g xs
+sum-both f g [] = refl
+sum-both f g (x ∷ xs) =
+    let rest = sum-both f g xs in
+    let all = sum_by-cons (λ y. f y + g y) x xs in
+    let left = sum_by-cons f x xs in
+    let right = sum_by-cons g x xs in omega arith
+
+pub sum-of-map : {X : Type 0} (f : ℕ → ℕ) (g : X → ℕ) (xs : List X) → sum_by (λ x. f (g x)) xs ≡ sum_by f (map g xs)
+sum-of-map f g [] = refl
+sum-of-map f g (x ∷ xs) =
+    let rest = sum-of-map f g xs in
+    let left = sum_by-cons (λ y. f (g y)) x xs in
+    let right = sum_by-cons f (g x) (map g xs) in omega arith

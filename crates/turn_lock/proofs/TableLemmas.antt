@@ -20,7 +20,7 @@ use Rattle.turn_lock.specs.declared.rule.Claim.{Claim}
 use Rattle.turn_lock.specs.declared.rule.SeatView.{SeatView}
 use Rattle.turn_lock.specs.Histories.{AreBelow}
 use Rattle.turn_lock.specs.Rule.{numbers_of, ClaimsHold, first_claim, other_claims, machine_after, first_view, Agrees, IsOut, LockRule}
-use Rattle.turn_lock.specs.Steps.{Sat, with_claims, new_view, both_views, empty_view, Comes, SeesHistory}
+use Rattle.turn_lock.specs.Steps.{SeatState, with_claims, new_view, both_views, empty_view, Comes, SeesHistory}
 use Rattle.turn_lock.proofs.SumLemmas.{sum-set, sum-same, sum-two, once, sum-once, sum-once-range}
 use Rattle.turn_lock.proofs.HistoryLemmas.{prefix_self, prefix_none, claims-nil, claims-cons, claims-head, claims-tail, claims-append, claims-fresh, numbers-fresh}
 use Rattle.turn_lock.proofs.StepLemmas.{not_both, same_view, each_set, still_out}
@@ -37,8 +37,8 @@ module _ {Root E : Type 0} (setup : Setup (Trail Root E)) where
       → LockRule setup (opening (0 ∷ 0 ∷ 0 ∷ []) (machine ∷ []) (first_view setup))
   opens machine is fresh few = record {
     history = [];
-    served = 0;
-    waiting = 0;
+    serving = 0;
+    queue = 0;
     words = refl;
     numbers = λ h. sum_by-cons (λ (x : V). sum_by h (numbers_of x.claims)) (first_view setup) [] ∙ all h;
     tickets = λ h. refl;
@@ -84,8 +84,8 @@ module _ {Root E : Type 0} (setup : Setup (Trail Root E)) where
       let views : List V = set s.views id left in
       let mine = k.views id v at in
       let both = halves k.history mine.claims in
-      let old : (j : ℕ) (u : V) → get_elem? views j ≡ some u → Agrees setup k.history k.served s.homes u =
-      each_set setup (Agrees setup k.history k.served s.homes) s.views id left
+      let old : (j : ℕ) (u : V) → get_elem? views j ≡ some u → Agrees setup k.history k.serving s.homes u =
+      each_set setup (Agrees setup k.history k.serving s.homes) s.views id left
       record {
         setup_is = mine.setup_is;
         claims = both.0;
@@ -96,7 +96,7 @@ module _ {Root E : Type 0} (setup : Setup (Trail Root E)) where
         serves = λ e. absurd (not_both (sym without ∙ e));
       }
       (λ j u _. k.views j u) in
-      let new : Agrees setup k.history k.served s.homes right = record {
+      let new : Agrees setup k.history k.serving s.homes right = record {
         setup_is = mine.setup_is;
         claims = both.1;
         few = omega arith;
@@ -106,8 +106,8 @@ module _ {Root E : Type 0} (setup : Setup (Trail Root E)) where
         serves = λ e. absurd (not_both e);
       } in record {
         history = k.history;
-        served = k.served;
-        waiting = k.waiting;
+        serving = k.serving;
+        queue = k.queue;
         words = k.words;
         numbers = λ h.
             let f = λ (x : V). sum_by h (numbers_of x.claims) in
@@ -122,7 +122,7 @@ module _ {Root E : Type 0} (setup : Setup (Trail Root E)) where
             let c = k.tickets h in
             let none : sum_by h right.tickets ≡ 0 = refl in omega arith;
         below = k.below;
-        views = λ j u at'. ⊎_elim (λ there. old j u there) (λ (is : right ≡ u). subst (Agrees setup k.history k.served s.homes) is new)
+        views = λ j u at'. ⊎_elim (λ there. old j u there) (λ (is : right ≡ u). subst (Agrees setup k.history k.serving s.homes) is new)
             (at_snoc views right u j at');
         machine = ⊎_elim (λ home. inl home) (λ out.
             let o = still_out setup s.views id v left at without out in
@@ -164,8 +164,8 @@ module _ {Root E : Type 0} (setup : Setup (Trail Root E)) where
       let mine = k.views id v at in
       let there : get_elem? s.views other ≡ some w = sym (set_else s.views id other both apart) ∙ at' in
       let theirs = k.views other w there in
-      let all : (j : ℕ) (u : V) → get_elem? views j ≡ some u → Agrees setup k.history k.served s.homes u =
-      each_set setup (Agrees setup k.history k.served s.homes) s.views id both
+      let all : (j : ℕ) (u : V) → get_elem? views j ≡ some u → Agrees setup k.history k.serving s.homes u =
+      each_set setup (Agrees setup k.history k.serving s.homes) s.views id both
       record {
         setup_is = mine.setup_is;
         claims = claims-append k.history v.claims w.claims mine.claims theirs.claims;
@@ -177,8 +177,8 @@ module _ {Root E : Type 0} (setup : Setup (Trail Root E)) where
       }
       (λ j u _. k.views j u) in record {
         history = k.history;
-        served = k.served;
-        waiting = k.waiting;
+        serving = k.serving;
+        queue = k.queue;
         words = k.words;
         numbers = λ h.
             let f = λ (x : V). sum_by h (numbers_of x.claims) in
@@ -195,7 +195,7 @@ module _ {Root E : Type 0} (setup : Setup (Trail Root E)) where
             let d = ap (sum_by h) free in
             let none : sum_by h [] ≡ 0 = refl in omega arith;
         below = k.below;
-        views = each_set setup (Agrees setup k.history k.served s.homes) views other empty_view
+        views = each_set setup (Agrees setup k.history k.serving s.homes) views other empty_view
             record {
               setup_is = tt;
               claims = claims-nil k.history;
@@ -212,7 +212,7 @@ module _ {Root E : Type 0} (setup : Setup (Trail Root E)) where
       }
 
   -- a seat sees the whole history
-  pub sees : (slots id : ℕ) (m : Sat Root E) → m.0.has_machine ≡ false
+  pub sees : (slots id : ℕ) (m : SeatState Root E) → m.0.has_machine ≡ false
       → Allows (LockRule setup) slots id m 2 (λ n. n) (SeesHistory (step slots 2 0 0 maybe.none) m)
   sees slots id m without s k _ at _ =
       let v : V = m.0 in
@@ -224,13 +224,13 @@ module _ {Root E : Type 0} (setup : Setup (Trail Root E)) where
         subst (λ (ws : List ℕ). LockRule setup record { words = ws; homes = s.homes; views = set s.views id w }) (sym (set-get_or s.words 2 0))
             record {
               history = k.history;
-              served = k.served;
-              waiting = k.waiting;
+              serving = k.serving;
+              queue = k.queue;
               words = k.words;
               numbers = λ h. sum-same (λ (x : V). sum_by h (numbers_of x.claims)) s.views id v w at refl ∙ k.numbers h;
               tickets = λ h. sum-same (λ (x : V). sum_by h x.tickets) s.views id v w at refl ∙ k.tickets h;
               below = k.below;
-              views = each_set setup (Agrees setup k.history k.served s.homes) s.views id w
+              views = each_set setup (Agrees setup k.history k.serving s.homes) s.views id w
                   record {
                     setup_is = mine.setup_is;
                     claims = mine.claims;
@@ -251,7 +251,7 @@ module _ {Root E : Type 0} (setup : Setup (Trail Root E)) where
   pub comes : (slots : ℕ) → Enters (LockRule setup) slots 2 (λ n w. Comes (step slots 2 0 0 maybe.none) (first_view setup, []) n (w, []))
   comes slots s k _ _ =
       let w : V = with_claims [] (first_view setup) in
-      let new : Agrees setup k.history k.served s.homes w = record {
+      let new : Agrees setup k.history k.serving s.homes w = record {
         setup_is = refl;
         claims = claims-nil k.history;
         few = omega arith;
@@ -263,8 +263,8 @@ module _ {Root E : Type 0} (setup : Setup (Trail Root E)) where
         w,
         record {
           history = k.history;
-          served = k.served;
-          waiting = k.waiting;
+          serving = k.serving;
+          queue = k.queue;
           words = k.words;
           numbers = λ h.
               let a = sum_by_push (λ (x : V). sum_by h (numbers_of x.claims)) s.views w in
@@ -275,7 +275,7 @@ module _ {Root E : Type 0} (setup : Setup (Trail Root E)) where
               let b = k.tickets h in
               let none : sum_by h [] ≡ 0 = refl in omega arith;
           below = k.below;
-          views = λ j u at. ⊎_elim (λ there. k.views j u there) (λ (is : w ≡ u). subst (Agrees setup k.history k.served s.homes) is new)
+          views = λ j u at. ⊎_elim (λ there. k.views j u there) (λ (is : w ≡ u). subst (Agrees setup k.history k.serving s.homes) is new)
               (at_snoc s.views w u j at);
           machine = ⊎_elim (λ home. inl home)
               (λ (out : IsOut s.views). inr (out.0, out.1, at_longer s.views (w ∷ []) out.0 out.1 out.2, out.3)) k.machine;

@@ -48,14 +48,14 @@ module _ {Root E : Type 0} where
   first_view setup = record { setup = Some setup; claims = fresh_claims 0 setup.passes; tickets = []; has_machine = false; seen = []; other_seen = [] }
 
   -- the machine is out with a seat whose turn it is, and which has seen the whole history
-  pub record IsServed (history : List (Entry E)) (served : ℕ) (homes : List (maybe.Option (Trail Root E))) (v : SeatView (Trail Root E) E)
+  pub record IsServed (history : List (Entry E)) (serving : ℕ) (homes : List (maybe.Option (Trail Root E))) (v : SeatView (Trail Root E) E)
       : Type 0 where
     pub out : homes ≡ maybe.none ∷ []
-    pub turn : v.tickets ≡ served ∷ []
+    pub turn : v.tickets ≡ serving ∷ []
     pub all : v.seen ≡ history
 
   -- what a view says is so
-  pub record Agrees (setup : Setup (Trail Root E)) (history : List (Entry E)) (served : ℕ) (homes : List (maybe.Option (Trail Root E)))
+  pub record Agrees (setup : Setup (Trail Root E)) (history : List (Entry E)) (serving : ℕ) (homes : List (maybe.Option (Trail Root E)))
       (v : SeatView (Trail Root E) E) : Type 0 where
     pub setup_is : IfSome v.setup (λ s. s ≡ setup)
     pub claims : ClaimsHold history v.claims
@@ -63,7 +63,7 @@ module _ {Root E : Type 0} where
     pub single : length v.tickets ≤ 1
     pub seen : IsPrefix v.seen history
     pub other_seen : IsPrefix v.other_seen history
-    pub serves : v.has_machine ≡ true → IsServed history served homes v
+    pub serves : v.has_machine ≡ true → IsServed history serving homes v
 
   -- some seat has the machine
   abbrev pub IsOut : List (SeatView (Trail Root E) E) → Type 0
@@ -72,14 +72,14 @@ module _ {Root E : Type 0} where
   -- the rule: the words are the tickets that were drawn, those that were served, and the length of the history
   pub record LockRule (setup : Setup (Trail Root E)) (s : State (Trail Root E) (SeatView (Trail Root E) E)) : Type 0 where
     pub history : List (Entry E)
-    pub served : ℕ
-    pub waiting : ℕ
-    pub words : s.words ≡ (served + waiting) % 2 ^ 64 ∷ served % 2 ^ 64 ∷ length history ∷ []
+    pub serving : ℕ
+    pub queue : ℕ
+    pub words : s.words ≡ (serving + queue) % 2 ^ 64 ∷ serving % 2 ^ 64 ∷ length history ∷ []
     -- however they are weighed: each number below `passes` stands in one view, and each ticket that is not served yet in one
     pub numbers : (h : ℕ → ℕ) → sum_by (λ v. sum_by h (numbers_of v.claims)) s.views ≡ sum_by h (range_with_len 0 setup.passes)
-    pub tickets : (h : ℕ → ℕ) → sum_by (λ v. sum_by h v.tickets) s.views ≡ sum_by h (range_with_len served waiting)
+    pub tickets : (h : ℕ → ℕ) → sum_by (λ v. sum_by h v.tickets) s.views ≡ sum_by h (range_with_len serving queue)
     pub below : AreBelow setup.passes history
-    pub views : (j : ℕ) (v : SeatView (Trail Root E) E) → get_elem? s.views j ≡ some v → Agrees setup history served s.homes v
+    pub views : (j : ℕ) (v : SeatView (Trail Root E) E) → get_elem? s.views j ≡ some v → Agrees setup history serving s.homes v
     -- the machine is at home with the events of the history, or out with a seat
     pub machine : (s.homes ≡ some (machine_after setup history) ∷ []) ⊎ IsOut s.views
     pub bound : setup.passes < 2 ^ 8

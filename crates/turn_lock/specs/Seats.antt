@@ -11,7 +11,7 @@ use Rattle.turn_lock.specs.declared.rule.Claim.{Claim}
 use Rattle.turn_lock.specs.declared.rule.SeatView.{SeatView}
 use Rattle.turn_lock.specs.Passes.{LockView, PassView, machine_at}
 use Rattle.turn_lock.specs.Rule.{claim}
-use Rattle.turn_lock.specs.Steps.{Sat}
+use Rattle.turn_lock.specs.Steps.{SeatState}
 
 abbrev pub first_number : {E : Type 0} → List (Claim E) → ℕ
 first_number [] = 0
@@ -40,18 +40,18 @@ module _ {Root E : Type 0} where
   IsSame old new = (new.table_id ≡ old.table_id) × (new.id ≡ old.id)
 
   -- a seat outside of a turn
-  pub record IsFree (m : Sat Root E) : Type 0 where
+  pub record IsFree (m : SeatState Root E) : Type 0 where
     pub no_ticket : m.0.tickets ≡ []
     pub no_machine : m.0.has_machine ≡ false
     pub no_slot : m.1 ≡ []
 
   -- a pass between two turns
-  pub record Rests (m : Sat Root E) : Type 0 where
+  pub record Rests (m : SeatState Root E) : Type 0 where
     pub one_number : length m.0.claims ≡ 1
     pub free : IsFree m
 
   -- a pass in its turn: it has the machine, which took the events of the history that it has seen
-  pub record HasTurn (lock : LockView Root) (m : Sat Root E) : Type 0 where
+  pub record HasTurn (lock : LockView Root) (m : SeatState Root E) : Type 0 where
     pub one_number : length m.0.claims ≡ 1
     pub has_machine : m.0.has_machine ≡ true
     pub slot : m.1 ≡ (0, machine_at lock m.0.seen) ∷ []

@@ -10,11 +10,11 @@ use Rattle.turn_lock.specs.Histories.{entries}
 use Rattle.turn_lock.specs.Rule.{claim, ClaimsHold, machine_after}
 
 -- a seat: its view, and the slot that it may have taken
-abbrev pub Sat : Type 0 → Type 0 → Type 0
-Sat Root E = Me (Trail Root E) (SeatView (Trail Root E) E)
+abbrev pub SeatState : Type 0 → Type 0 → Type 0
+SeatState Root E = Me (Trail Root E) (SeatView (Trail Root E) E)
 
-abbrev At : Type 0 → Type 0 → Type 0
-At Root E = Step (Trail Root E)
+abbrev StepOf : Type 0 → Type 0 → Type 0
+StepOf Root E = Step (Trail Root E)
 
 module _ {Root E : Type 0} where
   abbrev pub with_ticket : ℕ → SeatView (Trail Root E) E → SeatView (Trail Root E) E
@@ -53,35 +53,35 @@ module _ {Root E : Type 0} where
   events_since history [] = []
 
   -- the next ticket is drawn
-  abbrev pub DrawsTicket : At Root E → Sat Root E → ℕ → Sat Root E → Type 0
+  abbrev pub DrawsTicket : StepOf Root E → SeatState Root E → ℕ → SeatState Root E → Type 0
   DrawsTicket st m found m' = (ticket : ℕ) × (found ≡ ticket % 2 ^ 64) × (m' ≡ (with_ticket ticket m.0, m.1))
 
   -- the machine is taken out, with all that was entered
-  abbrev pub TakesMachine : Sat Root E → Sat Root E → Type 0
+  abbrev pub TakesMachine : SeatState Root E → SeatState Root E → Type 0
   TakesMachine m m' =
       (history : List (Entry E)) × IsPrefix m.0.seen history × ClaimsHold history m.0.claims
       × (m'.0 ≡ with_machine history m.0) × IfSome m.0.setup (λ setup. m'.1 ≡ (0, machine_after setup history) ∷ m.1)
 
   -- where the ticket is served, the machine is taken out, and else nothing changes
-  abbrev pub LooksForTurn : At Root E → Sat Root E → ℕ → Sat Root E → Type 0
+  abbrev pub LooksForTurn : StepOf Root E → SeatState Root E → ℕ → SeatState Root E → Type 0
   LooksForTurn st m found m' =
       (ticket : ℕ) → m.0.tickets ≡ ticket ∷ []
       → (found ≡ ticket % 2 ^ 64 → TakesMachine m m') × (found ≢ ticket % 2 ^ 64 → m' ≡ m)
 
   -- the events that the machine took are entered
-  abbrev pub CountsEvents : At Root E → Sat Root E → ℕ → Sat Root E → Type 0
+  abbrev pub CountsEvents : StepOf Root E → SeatState Root E → ℕ → SeatState Root E → Type 0
   CountsEvents st m found m' = m' ≡ (with_events (events_since m.0.seen m.1) m.0.claims m.0, m.1)
 
   -- the machine is at home again, and the next ticket is served
-  abbrev pub PassesTurn : At Root E → Sat Root E → ℕ → Sat Root E → Type 0
+  abbrev pub PassesTurn : StepOf Root E → SeatState Root E → ℕ → SeatState Root E → Type 0
   PassesTurn st m found m' = m' ≡ (after_turn m.0, [])
 
   -- a seat comes without a number
-  abbrev pub Comes : At Root E → Sat Root E → ℕ → Sat Root E → Type 0
+  abbrev pub Comes : StepOf Root E → SeatState Root E → ℕ → SeatState Root E → Type 0
   Comes st m found m' = m' ≡ (with_claims [] m.0, [])
 
   -- the whole history is seen, of which that which was seen and that which another seat saw are prefixes
-  abbrev pub SeesHistory : At Root E → Sat Root E → ℕ → Sat Root E → Type 0
+  abbrev pub SeesHistory : StepOf Root E → SeatState Root E → ℕ → SeatState Root E → Type 0
   SeesHistory st m found m' =
       IsPrefix m.0.seen m'.0.seen × IsPrefix m.0.other_seen m'.0.seen × ClaimsHold m'.0.seen m.0.claims
       × (m' ≡ (record (m.0) { seen = m'.0.seen }, m.1))

@@ -1,5 +1,5 @@
 //! The lock.
-ghost use Rattle.std.specs.Prelude.{◌≡◌, ◌+◌, ◌%◌, ◌^◌, ◌<◌, ◌≤◌, ◌≢◌, [], ◌∷◌, ◌++◌, ℕ, length, All, Some, false, IfOk, IsOk, vec_capacity};
+ghost use Rattle.std.specs.Prelude.{◌≡◌, ◌+◌, ◌%◌, ◌^◌, ◌<◌, ◌≤◌, ◌≢◌, [], ◌∷◌, ◌++◌, ℕ, length, All, sum_by, Some, false, IfOk, IsOk, vec_capacity};
 ghost use mathlib.Core.List.{IsPrefix};
 ghost use Rattle.turn_lock.specs.Passes.{machine_at, fresh_passes, AreAllPasses, HasSeenMine, IsHistory};
 ghost use Rattle.turn_lock.specs.Answers.{TakesTurn, Answers, new_events};
@@ -90,12 +90,12 @@ impl<M: Machine> TurnLock<M> {
         requires room { (room.items ≡ []) × (passes ≤ vec_capacity room) }
         ensures { result.items ≡ fresh_passes self.now }
     {
-        let mut made = room;
+        let mut all = room;
         for number in 0..passes {
             let pass = self.split(&mut seat);
-            made.push_reserved(pass);
+            all.push_reserved(pass);
         }
-        made
+        all
     }
 
     // Draws a ticket.
@@ -111,7 +111,7 @@ impl<M: Machine> TurnLock<M> {
     // Waits until the ticket is served, and takes the machine out.
     fn wait<R: Wait>(&self, rt: &R, seat: &mut LockSeat<M>, ticket: u64)
         requires lock { lock_of seat.old ≡ Some self.now }
-        requires ticket { (drawn : ℕ) × (ticket ≡ drawn % 2 ^ 64) × (seat.old.me.0.tickets ≡ drawn ∷ []) }
+        requires ticket { (place : ℕ) × (ticket ≡ place % 2 ^ 64) × (seat.old.me.0.tickets ≡ place ∷ []) }
         requires machine { seat.old.me.0.has_machine ≡ false }
         ensures same { IsSame seat.old seat.new }
         ensures takes { TakesMachine seat.old.me seat.new.me }
@@ -149,8 +149,7 @@ impl<M: Machine> TurnLock<M> {
         requires event { M.may_ask event }
         ensures same { IsSame seat.old seat.new }
         ensures answer { Answers M.decision M.wakeups M.is_idle M.needs_no_memory (machine_at self.now seat.old.me.0.seen) event result }
-        ensures view { seat.new.me.0 ≡ with_events (new_events event result) seat.old.me.0.claims seat.old.me.0 }
-        ensures turn { HasTurn self.now seat.new.me }
+        ensures seat { (seat.new.me.0 ≡ with_events (new_events event result) seat.old.me.0.claims seat.old.me.0) × HasTurn self.now seat.new.me }
     {
         let machine = seat.slot_mut(&self.table.shared, 0);
         let before = machine.len();
@@ -262,8 +261,9 @@ impl<M: Machine> TurnLock<M> {
     ///
     /// The passes are all that were made, in the order of their numbers. There is one history,
     /// whose events are those of the machine, of which each pass has seen a prefix, and whose
-    /// entries of each number are the events that its pass entered. It needs no memory, so the
-    /// answer is always `Ok`; an `Err` would hand the lock and the passes back as they were.
+    /// entries of each number are the events that its pass entered; so the machine has as many
+    /// events as all passes entered. It needs no memory, so the answer is always `Ok`; an `Err`
+    /// would hand the lock and the passes back as they were.
     pub fn close(
         self,
         passes: Vec<Pass<M>>,
@@ -271,6 +271,8 @@ impl<M: Machine> TurnLock<M> {
         requires { AreAllPasses self passes.items }
         ensures ok { IsOk result }
         ensures history { IfOk result (λ machine. IsHistory self machine passes.items) }
+        // So no event is lost, and none is there twice.
+        ensures count { IfOk result (λ machine. length machine.events ≡ sum_by (λ p. length p.mine) passes.items) }
     {
         let (_, keeper) = self.table.shared.load_new_seat::<Come>(COUNT);
         let keeper = self.gather(keeper, passes);

@@ -4,23 +4,25 @@ ghost use Rattle.turn_lock.specs.Answers.{Answers, new_events};
 
 use trail_core::{Machine, Recorded, Refused};
 
-/// What a turn came to.
+/// What a turn came to. An event is entered at `Done` alone.
 #[derive(Drop)]
 pub enum Turn<M: Machine> {
-    /// The event is entered.
+    /// The event is entered, as the last of the history.
     Done {
+        /// The machine's decision there.
         decision: M::Decision,
+        /// The event's wakeup list: who can go on once it is decided.
         wakes: M::Wakes,
     },
     /// The event would sleep and change nothing.
     StillWaiting,
-    /// The history is at its limit.
+    /// The history is at the limit of the machine. The event is handed back.
     Full(M::Event),
-    /// Memory ran out.
+    /// Memory ran out. The event is handed back.
     NoMemory(M::Event),
 }
 
-/// Asks the machine, unless its trail is full or the event is idle there.
+/// Asks the machine, which may be asked the event, unless its trail is full or the event is idle there.
 pub(crate) fn decide<M: Machine>(machine: &mut Recorded<M>, event: M::Event) -> Turn<M>
     requires { M.may_ask event }
     ensures answer { Answers M.decision M.wakeups M.is_idle M.needs_no_memory machine.old event result }

@@ -25,17 +25,12 @@ returns-clause-answer g c =
     let asked = has_asked c.args.self.now c.args.seat.now.me _ c.decide-turn.new.machine (new_events c.args.event c.decide-turn.result)
     c.requires.turn c.slot_mut-machine.ensures.value c.decide-turn.ensures.trail in
     subst
-    (λ machine. Answers g.M.Machine.decision g.M.Machine.wakeups g.M.Machine.is_idle g.M.Machine.needs_no_memory machine c.args.event c.decide-turn.result)
+    (λ machine. Answers g.M.Machine.decision g.M.Machine.wakeups g.M.Machine.is_idle g.M.Machine.needs_no_memory
+    machine c.args.event c.decide-turn.result)
     (old_machine _ _ _ _ _ asked) c.decide-turn.ensures.answer
 
-pub returns-clause-view : goal.returns-clause-view
-returns-clause-view g c =
+pub returns-clause-seat : goal.returns-clause-seat
+returns-clause-seat g c =
     let asked = has_asked c.args.self.now c.args.seat.now.me _ c.decide-turn.new.machine (new_events c.args.event c.decide-turn.result)
     c.requires.turn c.slot_mut-machine.ensures.value c.decide-turn.ensures.trail in
-    (turn_goes_on _ _ _ _ _ _ asked c.fetch_add.ensures.2).0
-
-pub returns-clause-turn : goal.returns-clause-turn
-returns-clause-turn g c =
-    let asked = has_asked c.args.self.now c.args.seat.now.me _ c.decide-turn.new.machine (new_events c.args.event c.decide-turn.result)
-    c.requires.turn c.slot_mut-machine.ensures.value c.decide-turn.ensures.trail in
-    (turn_goes_on _ _ _ _ _ _ asked c.fetch_add.ensures.2).1
+    turn_goes_on _ _ _ _ _ _ asked c.fetch_add.ensures.2

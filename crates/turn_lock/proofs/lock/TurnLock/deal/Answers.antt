@@ -7,7 +7,7 @@ loop-number-preserved g c =
     let turn = c.loop-number in
     let split = c.split-pass.ensures in (
       subst (Deals c.args.self.now c.args.seat c.split-pass.new.seat (turn.number + 1)) (sym c.push_reserved.ensures.items)
-          (deals_one c.args.self.now c.args.seat turn.seat c.split-pass.new.seat turn.number turn.made.items c.split-pass.result
+          (deals_one c.args.self.now c.args.seat turn.seat c.split-pass.new.seat turn.number turn.all.items c.split-pass.result
           turn.invariant.0 (search rules) split.same.0 split.seat split.pass),
       search rules,
     )
