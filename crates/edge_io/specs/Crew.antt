@@ -1,5 +1,5 @@
 -- What a crew promises of the jobs that it was handed.
-use Rattle.std.specs.Prelude.{◌≡◌, ℕ, Bool, true, false, List, ◌<◌, ◌≤◌, ◌⊎◌}
+use Rattle.std.specs.Prelude.{◌≡◌, ℕ, Bool, true, false, List}
 use Rattle.edge_io.specs.Outside.{Rose}
 use Rattle.edge_io.specs.declared.crew.Refused.{Refused}
 use Rattle.edge_io.specs.declared.crew.Refused.TheVariants as refused
