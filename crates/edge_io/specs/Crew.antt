@@ -10,9 +10,9 @@ jobs_of (refused.NoWorker jobs) = jobs.items
 jobs_of (refused.NoMemory jobs) = jobs.items
 
 -- The count of faults rose exactly where there was no worker.
-abbrev pub Counted : {J : Type 0} → ℕ → ℕ → Refused J → Type 0
-Counted old new (refused.NoWorker jobs) = Rose old new
-Counted old new (refused.NoMemory jobs) = new ≡ old
+abbrev pub CountsFault : {J : Type 0} → ℕ → ℕ → Refused J → Type 0
+CountsFault old new (refused.NoWorker jobs) = Rose old new
+CountsFault old new (refused.NoMemory jobs) = new ≡ old
 
 -- What became of a job where the word at the flag is this: it was run, or it was not begun.
 abbrev pub Went : {J : Type 0} → (J → J → Type 0) → Bool → J → J → Type 0

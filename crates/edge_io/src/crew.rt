@@ -2,7 +2,7 @@
 ghost use Rattle.std.specs.Prelude.{◌≡◌, ◌≤◌, ◌↔◌, vec_len, IsTrue, IsErr, IfOk, OnOk, OnErr, IfErr};
 ghost use Rattle.std.specs.List.{All, AllZip};
 ghost use Rattle.edge_io.specs.Outside.{Rose, count_after};
-ghost use Rattle.edge_io.specs.Crew.{jobs_of, Counted};
+ghost use Rattle.edge_io.specs.Crew.{jobs_of, CountsFault};
 
 use crate::threads;
 use std::alloc::Global;
@@ -78,7 +78,7 @@ pub trait Crew {
         ensures no_fault { OnOk result (faults self.new ≡ faults self.old) }
         ensures told { refuses self.old → IsErr result }
         ensures back { IfErr result (λ r. jobs_of r ≡ jobs.items) }
-        ensures counted { IfErr result (Counted (faults self.old) (faults self.new)) }
+        ensures fault { IfErr result (CountsFault (faults self.old) (faults self.new)) }
         ensures same_count { OnErr result (job_count self.new ≡ job_count self.old) }
         ensures grows { faults self.old ≤ faults self.new }
     {
