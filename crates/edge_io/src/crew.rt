@@ -1,8 +1,8 @@
 //! A crew, which runs jobs in threads, and what a job is.
-ghost use Rattle.std.specs.Prelude.{◌≡◌, ◌≤◌, vec_len, IfOk, OnOk, OnErr, IfErr};
+ghost use Rattle.std.specs.Prelude.{◌≡◌, ◌≤◌, ◌↔◌, vec_len, IsTrue, IsErr, IfOk, OnOk, OnErr, IfErr};
 ghost use Rattle.std.specs.List.{All, AllZip};
 ghost use Rattle.edge_io.specs.Outside.{Rose, count_after};
-ghost use Rattle.edge_io.specs.Crew.{jobs_of, Counted};
+ghost use Rattle.edge_io.specs.Crew.{jobs_of, CountsFault};
 
 use crate::threads;
 use std::alloc::Global;
@@ -41,8 +41,12 @@ pub trait Crew {
     /// How many jobs were run. At 2^64 - 1 the count stays.
     ghost job_count: { Self → ℕ };
 
+    /// That the next call is to fail for want of a worker.
+    ghost refuses: { Self → Type 0 };
+
     /// Whether the call that begins now is to fail.
     fn is_to_fail(&mut self) -> bool
+        ensures told { IsTrue result ↔ refuses self.old }
         ensures same_faults { faults self.new ≡ faults self.old }
         ensures same_jobs { job_count self.new ≡ job_count self.old };
 
@@ -59,8 +63,8 @@ pub trait Crew {
 
     /// Runs all jobs at once, each in a thread of its own, and hands them back in their order when all have ended.
     ///
-    /// Where it refuses, it hands the jobs back as they were, in their order, and none was begun. `NoWorker` comes only
-    /// where the count of faults rose, and `NoMemory` and Ok leave that count.
+    /// Where it refuses, it hands the jobs back as they were, in their order, and none was begun. It refuses where the
+    /// crew is told to. `NoWorker` comes only where the count of faults rose, and `NoMemory` and Ok leave that count.
     final fn run_all<R: Threads + Wait + Sync, C: Sync, J: Job<C> + Send>(
         &mut self,
         rt: &R,
@@ -72,8 +76,9 @@ pub trait Crew {
         ensures ran { IfOk result (λ done. AllZip (J.ran shared.now) jobs.items done.items) }
         ensures count { OnOk result (job_count self.new ≡ count_after (job_count self.old) (vec_len jobs)) }
         ensures no_fault { OnOk result (faults self.new ≡ faults self.old) }
+        ensures told { refuses self.old → IsErr result }
         ensures back { IfErr result (λ r. jobs_of r ≡ jobs.items) }
-        ensures counted { IfErr result (Counted (faults self.old) (faults self.new)) }
+        ensures fault { IfErr result (CountsFault (faults self.old) (faults self.new)) }
         ensures same_count { OnErr result (job_count self.new ≡ job_count self.old) }
         ensures grows { faults self.old ≤ faults self.new }
     {

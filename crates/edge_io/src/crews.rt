@@ -38,6 +38,8 @@ impl Crew for ThreadCrew {
 
     ghost job_count = { λ c. c.job_count };
 
+    ghost refuses = { λ c. ⊥ };
+
     fn is_to_fail(&mut self) -> bool {
         false
     }
@@ -87,13 +89,15 @@ impl Crew for MemCrew {
 
     ghost job_count = { λ c. c.job_count };
 
+    ghost refuses = { λ c. Contains c.failing (count_after c.calls 1) };
+
     /// True exactly where this call's number is listed.
     fn is_to_fail(&mut self) -> bool
+        ensures told { IsTrue result ↔ Contains self.old.failing (count_after self.old.calls 1) }
         ensures same_faults { self.new.faults ≡ self.old.faults }
         ensures same_jobs { self.new.job_count ≡ self.old.job_count }
 
         ensures calls { self.new.calls ≡ count_after self.old.calls 1 }
-        ensures listed { IsTrue result ↔ Contains self.old.failing self.new.calls }
         ensures same_list { self.new.failing ≡ self.old.failing }
     {
         self.calls = self.calls.saturating_add(1);

@@ -1,5 +1,6 @@
 //! A port in memory, which tells what was heard and sent, with lists of the calls that are to fail.
-ghost use Rattle.std.specs.Prelude.{◌≡◌, ℕ, ◌+◌, ◌-◌, ◌<◌, ◌≤◌, ◌↔◌, ◌⊎◌, min, List, [], ◌++◌, length, take, drop, Some, IfOk, OnOk, OnErr, IsErr, Contains};
+ghost use Rattle.std.specs.Prelude.{◌≡◌, ℕ, ◌+◌, ◌-◌, ◌<◌, ◌≤◌, ◌↔◌, ◌⊎◌, min, List, [], ◌++◌, length, take, drop};
+ghost use Rattle.std.specs.Prelude.{Some, IfOk, OnOk, OnErr, IsErr, Contains};
 ghost use Rattle.edge_io.specs.Outside.{Rose, Appended, count_after};
 ghost use Rattle.edge_io.specs.Port.{FitsRoom, inputs, end_count_after};
 ghost use Rattle.edge_io.specs.PortMemory.{inputs_of, bytes_of, heard_of, next_heard, is_through, left_after, offset_after};
@@ -96,9 +97,26 @@ impl Model for MemPort {
 
     ghost Value = { PortState };
 
-    ghost view = { λ p. record { heard = came_in p.answers.items p.at p.offset; left = drop p.at p.answers.items; offset = p.offset; end_count = p.end_count; waits = p.waits; failing_waits = p.failing_waits.items; sent = p.sent.items; room = p.room; sends = p.sends; failing_sends = p.failing_sends.items; faults = p.faults } };
+    ghost view = { λ p. record {
+      heard = came_in p.answers.items p.at p.offset;
+      left = drop p.at p.answers.items;
+      offset = p.offset;
+      end_count = p.end_count;
+      waits = p.waits;
+      failing_waits = p.failing_waits.items;
+      sent = p.sent.items;
+      room = p.room;
+      sends = p.sends;
+      failing_sends = p.failing_sends.items;
+      faults = p.faults;
+    } };
 
-    ghost invariant = { λ p. (p.at ≤ vec_len p.answers) × (p.offset ≤ length (front_bytes (drop p.at p.answers.items))) × (vec_len p.sent + p.room ≤ vec_capacity p.sent) };
+    // The answers that are through are among all, no more bytes of the next one were handed out than it has, and what
+    // may still be sent has its memory.
+    ghost invariant = { λ p.
+        (p.at ≤ vec_len p.answers)
+        × (p.offset ≤ length (front_bytes (drop p.at p.answers.items)))
+        × (vec_len p.sent + p.room ≤ vec_capacity p.sent) };
 }
 
 impl MemPort {
@@ -112,7 +130,19 @@ impl MemPort {
         failing_waits: Vec<u64>,
         failing_sends: Vec<u64>,
     ) -> Result<Self, AllocError>
-        ensures { IfOk result (λ port. port ≡ record { heard = []; left = answers.items; offset = 0; end_count = 0; waits = 0; failing_waits = failing_waits.items; sent = []; room = room; sends = 0; failing_sends = failing_sends.items; faults = 0 }) }
+        ensures { IfOk result (λ port. port ≡ record {
+          heard = [];
+          left = answers.items;
+          offset = 0;
+          end_count = 0;
+          waits = 0;
+          failing_waits = failing_waits.items;
+          sent = [];
+          room = room;
+          sends = 0;
+          failing_sends = failing_sends.items;
+          faults = 0;
+        }) }
     {
         Ok(MemPort {
             answers,

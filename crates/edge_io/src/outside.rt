@@ -2,7 +2,7 @@
 ghost use Rattle.std.specs.Prelude.{ℕ, ◌≡◌, ◌<◌, ◌≤◌, List, length, take, Option, IfOk, OnOk, OnErr};
 ghost use Rattle.edge_io.specs.Outside.{Rose, Gave, Appended, count_after};
 
-/// The outside failed: the count of faults rose.
+/// The outside failed: the count of faults rose. At 2^64 - 1 that count stays, and counts as risen.
 #[derive(Clone, Copy, Debug, PartialEq, Eq)]
 pub struct Failed;
 
