@@ -4,8 +4,8 @@ ghost use Rattle.access_rule.specs.Access.{list_refuses, list_rule, refusal, all
 
 use crate::Attrs;
 use acl_core::{Cred, Perm};
-use sys_types::Rule;
 use label_core::{Subject, dominates};
+use sys_types::Rule;
 
 /// Whether the list refuses. A superuser is refused nothing but to execute a file of which no
 /// entry has x.

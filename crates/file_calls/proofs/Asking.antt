@@ -13,11 +13,17 @@ use Rattle.file_calls.specs.declared.caller.Caller.{Caller}
 use Rattle.file_calls.specs.Makes.{what_is, rule_of}
 
 -- the rule that denies access is that of what access depends on
-pub access_is : (nodes : List (Option NodeAt)) (caller : Caller) (n : ℕ) (attrs : Attrs) (read write exec : Bool) → option_map (λ (r : NodeRecord). r.attrs) (record_of nodes n) ≡ Some attrs → record_of nodes n ≡ what_is nodes n → access_rule caller.cred caller.label (what_is nodes n) read write exec ≡ refusal caller.cred caller.label attrs read write exec
+pub access_is : (nodes : List (Option NodeAt)) (caller : Caller) (n : ℕ) (attrs : Attrs) (read write exec : Bool)
+    → option_map (λ (r : NodeRecord). r.attrs) (record_of nodes n) ≡ Some attrs → record_of nodes n ≡ what_is nodes n
+    → access_rule caller.cred caller.label (what_is nodes n) read write exec ≡ refusal caller.cred caller.label attrs read write exec
 access_is nodes caller n attrs read write exec is there =
-    elim (what_is nodes n) as (λ o. option_map (λ (r : NodeRecord). r.attrs) o ≡ Some attrs → access_rule caller.cred caller.label o read write exec ≡ refusal caller.cred caller.label attrs read write exec) [
+    elim (what_is nodes n) as
+    (λ o. option_map (λ (r : NodeRecord). r.attrs) o ≡ Some attrs
+    → access_rule caller.cred caller.label o read write exec ≡ refusal caller.cred caller.label attrs read write exec) [
       | None ↦ λ e. absurd (let no : None ≡ Some attrs = e in cc)
-      | Some r ↦ λ e. let same : r.attrs ≡ attrs = let both : Some r.attrs ≡ Some attrs = e in cc in ap (λ (a : Attrs). refusal caller.cred caller.label a read write exec) same
+      | Some r ↦
+          λ e. let same : r.attrs ≡ attrs = let both : Some r.attrs ≡ Some attrs = e in
+          cc in ap (λ (a : Attrs). refusal caller.cred caller.label a read write exec) same
     ] (ap (option_map (λ (r : NodeRecord). r.attrs)) (sym there) ∙ is)
 
 -- an answer tells the rule that it is made from
@@ -26,7 +32,8 @@ rule_told None = refl
 rule_told (Some ruled) = refl
 
 -- a regular file is no directory and no device
-pub is_plain : (o p : Option NodeRecord) → option_map (λ (r : NodeRecord). r.kind) o ≡ Some kind.File → o ≡ p → (is_dir_record p ≡ false) × (is_device p ≡ false)
+pub is_plain : (o p : Option NodeRecord) → option_map (λ (r : NodeRecord). r.kind) o ≡ Some kind.File → o ≡ p
+    → (is_dir_record p ≡ false) × (is_device p ≡ false)
 is_plain o p is there =
     elim p as (λ p. option_map (λ (r : NodeRecord). r.kind) p ≡ Some kind.File → (is_dir_record p ≡ false) × (is_device p ≡ false)) [
       | None ↦ λ e. absurd (let never : None ≡ Some kind.File = e in cc)
@@ -36,5 +43,7 @@ is_plain o p is there =
     ] (ap (option_map (λ (r : NodeRecord). r.kind)) (sym there) ∙ is)
 
 -- a node may be taken from its directory
-pub parent_free : (nodes : List (Option NodeAt)) (caller : Caller) (dir : ℕ) (place : List (List ℕ)) → access_rule caller.cred caller.label (what_is nodes dir) false true false ≡ None → path_of nodes dir ≡ place → denied_by (access_rule caller.cred caller.label (at_path (nodes_from nodes) place) false true false) ≡ None
+pub parent_free : (nodes : List (Option NodeAt)) (caller : Caller) (dir : ℕ) (place : List (List ℕ))
+    → access_rule caller.cred caller.label (what_is nodes dir) false true false ≡ None → path_of nodes dir ≡ place
+    → denied_by (access_rule caller.cred caller.label (at_path (nodes_from nodes) place) false true false) ≡ None
 parent_free nodes caller dir place free here = rw (← here, free) refl

@@ -13,7 +13,10 @@ use Rattle.file_calls.specs.OpenFiles.{file_of, tty_of}
 use Rattle.file_calls.specs.Views.{seen_file, view_of}
 use Rattle.file_calls.proofs.Files.{seen_at, seen_set}
 
-closed : (nodes : List (Option NodeAt)) (files : List (Option OpenFile)) (caller : Caller) (line : Queues) (recheck : Bool) (fd : ℕ) (f : OpenFile) → file_of files fd ≡ Some f → f.tty ≡ None → Does (view_of nodes files caller line recheck) (view_of nodes (slice_set files fd None) caller line recheck) (Answer (Num 0)) (close_row (view_of nodes files caller line recheck) fd)
+closed : (nodes : List (Option NodeAt)) (files : List (Option OpenFile)) (caller : Caller) (line : Queues) (recheck : Bool) (fd : ℕ) (f : OpenFile)
+    → file_of files fd ≡ Some f → f.tty ≡ None
+    → Does (view_of nodes files caller line recheck) (view_of nodes (slice_set files fd None) caller line recheck) (Answer (Num 0))
+    (close_row (view_of nodes files caller line recheck) fd)
 closed nodes files caller line recheck fd f at other =
     let v = view_of nodes files caller line recheck in
     let here : file_at v fd ≡ Some (seen_file nodes f) = seen_at nodes files fd ∙ ap (option_map (seen_file nodes)) at in
@@ -22,9 +25,15 @@ closed nodes files caller line recheck fd f at other =
       answer = rw here refl;
     }
 
-pub closes : (nodes : List (Option NodeAt)) (files : List (Option OpenFile)) (caller : Caller) (line : Queues) (recheck : Bool) (fd : ℕ) → is_some (file_of files fd) ≡ true → tty_of files fd ≡ None → Does (view_of nodes files caller line recheck) (view_of nodes (slice_set files fd None) caller line recheck) (Answer (Num 0)) (close_row (view_of nodes files caller line recheck) fd)
+pub closes : (nodes : List (Option NodeAt)) (files : List (Option OpenFile)) (caller : Caller) (line : Queues) (recheck : Bool) (fd : ℕ)
+    → is_some (file_of files fd) ≡ true → tty_of files fd ≡ None
+    → Does (view_of nodes files caller line recheck) (view_of nodes (slice_set files fd None) caller line recheck) (Answer (Num 0))
+    (close_row (view_of nodes files caller line recheck) fd)
 closes nodes files caller line recheck fd some other =
-    elim (file_of files fd) as (λ o. file_of files fd ≡ o → is_some o ≡ true → option_and_then (λ (f : OpenFile). f.tty) o ≡ None → Does (view_of nodes files caller line recheck) (view_of nodes (slice_set files fd None) caller line recheck) (Answer (Num 0)) (close_row (view_of nodes files caller line recheck) fd)) [
+    elim (file_of files fd) as
+    (λ o. file_of files fd ≡ o → is_some o ≡ true → option_and_then (λ (f : OpenFile). f.tty) o ≡ None
+    → Does (view_of nodes files caller line recheck) (view_of nodes (slice_set files fd None) caller line recheck) (Answer (Num 0))
+    (close_row (view_of nodes files caller line recheck) fd)) [
       | None ↦ λ at some other. absurd (let no : false ≡ true = some in cc)
       | Some f ↦ λ at some other. closed nodes files caller line recheck fd f at other
     ] refl some other

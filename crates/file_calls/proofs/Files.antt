@@ -14,10 +14,12 @@ use Rattle.file_calls.specs.Views.{seen_file, seen_files, IsOpen, AreOpen}
 
 -- ---- what is seen
 
-pub seen_at : (nodes : List (Option NodeAt)) (files : List (Option OpenFile)) (fd : ℕ) → get_or (seen_files nodes files) fd None ≡ option_map (seen_file nodes) (file_of files fd)
+pub seen_at : (nodes : List (Option NodeAt)) (files : List (Option OpenFile)) (fd : ℕ)
+    → get_or (seen_files nodes files) fd None ≡ option_map (seen_file nodes) (file_of files fd)
 seen_at nodes files fd = get_or-map (option_map (seen_file nodes)) files fd None
 
-pub seen_set : (nodes : List (Option NodeAt)) (files : List (Option OpenFile)) (fd : ℕ) (x : Option OpenFile) → seen_files nodes (set files fd x) ≡ set (seen_files nodes files) fd (option_map (seen_file nodes) x)
+pub seen_set : (nodes : List (Option NodeAt)) (files : List (Option OpenFile)) (fd : ℕ) (x : Option OpenFile)
+    → seen_files nodes (set files fd x) ≡ set (seen_files nodes files) fd (option_map (seen_file nodes) x)
 seen_set nodes files fd x = map-set (option_map (seen_file nodes)) files fd x
 
 live_one : (nodes : List (Option NodeAt)) (x : Option OpenFile) → machine.is_live (option_map (seen_file nodes) x) ≡ is_live x
@@ -36,19 +38,24 @@ free_from nodes (Some f ∷ files) = ap (λ n. 1 + n) (free_from nodes files)
 pub seen_free : (nodes : List (Option NodeAt)) (files : List (Option OpenFile)) → position is_none (seen_files nodes files) ≡ lowest_free files
 seen_free nodes files = rw (free_from nodes files, length-map files (option_map (seen_file nodes))) refl
 
-killed_one : (nodes : List (Option NodeAt)) (x : Option OpenFile) → option_map (seen_file nodes) (option_map killed x) ≡ option_map killed_file (option_map (seen_file nodes) x)
+killed_one : (nodes : List (Option NodeAt)) (x : Option OpenFile)
+    → option_map (seen_file nodes) (option_map killed x) ≡ option_map killed_file (option_map (seen_file nodes) x)
 killed_one nodes None = refl
 killed_one nodes (Some f) = refl
 
-pub seen_killed : (nodes : List (Option NodeAt)) (files : List (Option OpenFile)) → seen_files nodes (map (option_map killed) files) ≡ map (option_map killed_file) (seen_files nodes files)
+pub seen_killed : (nodes : List (Option NodeAt)) (files : List (Option OpenFile))
+    → seen_files nodes (map (option_map killed) files) ≡ map (option_map killed_file) (seen_files nodes files)
 seen_killed nodes [] = refl
 seen_killed nodes (x ∷ files) = let one = killed_one nodes x in let more = seen_killed nodes files in cc
 
-moved_one : (nodes : List (Option NodeAt)) (offset : ℕ) (x : Option OpenFile) → option_map (seen_file nodes) (option_map (with_offset offset) x) ≡ option_map (seen_moved_to offset) (option_map (seen_file nodes) x)
+moved_one : (nodes : List (Option NodeAt)) (offset : ℕ) (x : Option OpenFile)
+    → option_map (seen_file nodes) (option_map (with_offset offset) x) ≡ option_map (seen_moved_to offset) (option_map (seen_file nodes) x)
 moved_one nodes offset None = refl
 moved_one nodes offset (Some f) = refl
 
-pub seen_moved : (nodes : List (Option NodeAt)) (files : List (Option OpenFile)) (fd offset : ℕ) → seen_files nodes (moved_to fd offset files) ≡ set (seen_files nodes files) fd (option_map (seen_moved_to offset) (get_or (seen_files nodes files) fd None))
+pub seen_moved : (nodes : List (Option NodeAt)) (files : List (Option OpenFile)) (fd offset : ℕ)
+    → seen_files nodes (moved_to fd offset files)
+    ≡ set (seen_files nodes files) fd (option_map (seen_moved_to offset) (get_or (seen_files nodes files) fd None))
 seen_moved nodes files fd offset =
     seen_set nodes files fd (option_map (with_offset offset) (file_of files fd))
     ∙ ap (set (seen_files nodes files) fd) (moved_one nodes offset (file_of files fd) ∙ ap (option_map (seen_moved_to offset)) (sym (seen_at nodes files fd)))
@@ -61,7 +68,8 @@ none_in (suc n) zero = refl
 none_in (suc n) (suc fd) = none_in n fd
 
 -- what a number refers to after a number's file has changed
-set_at : (files : List (Option OpenFile)) (fd other : ℕ) (x : Option OpenFile) (f : OpenFile) → file_of (set files fd x) other ≡ Some f → (x ≡ Some f) ⊎ (file_of files other ≡ Some f)
+set_at : (files : List (Option OpenFile)) (fd other : ℕ) (x : Option OpenFile) (f : OpenFile) → file_of (set files fd x) other ≡ Some f
+    → (x ≡ Some f) ⊎ (file_of files other ≡ Some f)
 set_at files fd other x f at = elim (cases_eq other fd) [
   | inr apart ↦ inr (sym (get_or-set_other files fd other x None apart) ∙ at)
   | inl same ↦ elim (cases_lt fd (length files)) [
@@ -82,7 +90,8 @@ none_open nodes files fd are = record {
 }
 
 -- a file is opened
-pub file_open : (nodes : List (Option NodeAt)) (files : List (Option OpenFile)) (fd : ℕ) (f : OpenFile) → IsOpen nodes f → AreOpen nodes files → AreOpen nodes (set files fd (Some f))
+pub file_open : (nodes : List (Option NodeAt)) (files : List (Option OpenFile)) (fd : ℕ) (f : OpenFile) → IsOpen nodes f → AreOpen nodes files
+    → AreOpen nodes (set files fd (Some f))
 file_open nodes files fd f open_here are = record {
   each = λ other g at. elim (set_at files fd other (Some f) g at) [
     | inl same ↦ let one : f ≡ g = cc in subst (λ (h : OpenFile). IsOpen nodes h) one open_here
@@ -91,7 +100,8 @@ file_open nodes files fd f open_here are = record {
 }
 
 -- a file has another offset
-pub moved_open : (nodes : List (Option NodeAt)) (files : List (Option OpenFile)) (fd offset : ℕ) → AreOpen nodes files → AreOpen nodes (moved_to fd offset files)
+pub moved_open : (nodes : List (Option NodeAt)) (files : List (Option OpenFile)) (fd offset : ℕ) → AreOpen nodes files
+    → AreOpen nodes (moved_to fd offset files)
 moved_open nodes files fd offset are =
     elim (file_of files fd) as (λ o. file_of files fd ≡ o → AreOpen nodes (set files fd (option_map (with_offset offset) o))) [
       | None ↦ λ at. none_open nodes files fd are
@@ -119,6 +129,7 @@ pub no_file_open : (nodes : List (Option NodeAt)) (n : ℕ) → AreOpen nodes (r
 no_file_open nodes n = record { each = λ fd f at. absurd (let no : None ≡ Some f = sym (none_in n fd) ∙ at in cc) }
 
 -- the same where a number was free
-pub lowest_open : (nodes : List (Option NodeAt)) (old new : List (Option OpenFile)) (fd : Option ℕ) (f : OpenFile) → IsOpen nodes f → MatchOption fd (new ≡ old) (λ n. new ≡ set old n (Some f)) → AreOpen nodes old → AreOpen nodes new
+pub lowest_open : (nodes : List (Option NodeAt)) (old new : List (Option OpenFile)) (fd : Option ℕ) (f : OpenFile) → IsOpen nodes f
+    → MatchOption fd (new ≡ old) (λ n. new ≡ set old n (Some f)) → AreOpen nodes old → AreOpen nodes new
 lowest_open nodes old new None f is same are = rw same are
 lowest_open nodes old new (Some fd) f is changed are = rw changed (file_open nodes old fd f is are)

@@ -15,7 +15,8 @@ no_groups ns none = rw (eq-eqb (length ns) 0 none) refl
 
 joined : (n : ℕ) (ns : List ℕ) → join_with_byte (byte "+") (map decimal (n ∷ ns)) ≡ decimal n ++ flat_map (λ m. codes "+" ++ decimal m) ns
 joined n [] = sym (append-nil (decimal n))
-joined n (m ∷ ns) = ap (λ more. decimal n ++ (byte "+" ∷ more)) (joined m ns) ∙ ap (λ more. decimal n ++ more) (sym (flat_map-cons (λ m. codes "+" ++ decimal m) m ns))
+joined n (m ∷ ns) =
+    ap (λ more. decimal n ++ (byte "+" ∷ more)) (joined m ns) ∙ ap (λ more. decimal n ++ more) (sym (flat_map-cons (λ m. codes "+" ++ decimal m) m ns))
 
 -- the first group, and each other after a plus sign
 pub some_groups : (n : ℕ) (ns : List ℕ) → groups_word (n ∷ ns) ≡ decimal n ++ flat_map (λ m. codes "+" ++ decimal m) ns

@@ -47,12 +47,14 @@ live_apart old n m free live = λ same.
 pub made_kept : (old : List (Option NodeAt)) (n m : ℕ) (x : Option NodeAt) → node_at old n ≡ None → IsLive old m → IsKeptAt old (with_node old n x) m
 made_kept old n m x free live = other_kept old n m x (live_apart old n m free live)
 
-kind_same : (change : NodeRecord → NodeRecord) (o : Option NodeRecord) → ((r : NodeRecord) → (change r).kind ≡ r.kind) → option_map (λ (r : NodeRecord). r.kind) (option_map change o) ≡ option_map (λ (r : NodeRecord). r.kind) o
+kind_same : (change : NodeRecord → NodeRecord) (o : Option NodeRecord) → ((r : NodeRecord) → (change r).kind ≡ r.kind)
+    → option_map (λ (r : NodeRecord). r.kind) (option_map change o) ≡ option_map (λ (r : NodeRecord). r.kind) o
 kind_same change None same = refl
 kind_same change (Some r) same = ap (λ (k : Kind). Some k) (same r)
 
 -- a node changes in place and keeps its kind
-pub changed_kept : (change : NodeRecord → NodeRecord) (old : List (Option NodeAt)) (n m : ℕ) → ((r : NodeRecord) → (change r).kind ≡ r.kind) → IsKeptAt old (with_record change old n) m
+pub changed_kept : (change : NodeRecord → NodeRecord) (old : List (Option NodeAt)) (n m : ℕ) → ((r : NodeRecord) → (change r).kind ≡ r.kind)
+    → IsKeptAt old (with_record change old n) m
 changed_kept change old n m same = record {
   live = λ live. live_kept change old n m ∙ live;
   path = path_kept change old n m;
@@ -67,7 +69,8 @@ changed_kept change old n m same = record {
 pub caller_kept : (old new : List (Option NodeAt)) (caller : Caller) → IsKeptAt old new caller.directory → seen_caller new caller ≡ seen_caller old caller
 caller_kept old new caller kept = rw kept.path refl
 
-dir_by_kind : (o : Option NodeRecord) → is_dir_record o ≡ true → (p : Option NodeRecord) → option_map (λ (r : NodeRecord). r.kind) p ≡ option_map (λ (r : NodeRecord). r.kind) o → is_dir_record p ≡ true
+dir_by_kind : (o : Option NodeRecord) → is_dir_record o ≡ true → (p : Option NodeRecord)
+    → option_map (λ (r : NodeRecord). r.kind) p ≡ option_map (λ (r : NodeRecord). r.kind) o → is_dir_record p ≡ true
 dir_by_kind None d p e = absurd (let no : false ≡ true = d in cc)
 dir_by_kind (Some r) d None e = absurd cc
 dir_by_kind (Some r) d (Some q) e = let same : q.kind ≡ r.kind = let both : Some q.kind ≡ Some r.kind = e in cc in ap is_dir same ∙ d
@@ -100,21 +103,27 @@ files_kept old new (Some f ∷ files) kept =
     cc
 
 -- a node is made
-pub made_files : (old : List (Option NodeAt)) (n : ℕ) (x : Option NodeAt) (files : List (Option OpenFile)) → node_at old n ≡ None → AreOpen old files → AreKeptAt old (with_node old n x) files
+pub made_files : (old : List (Option NodeAt)) (n : ℕ) (x : Option NodeAt) (files : List (Option OpenFile)) → node_at old n ≡ None → AreOpen old files
+    → AreKeptAt old (with_node old n x) files
 made_files old n x files free are = record { each = λ fd f at. made_kept old n f.node x free (are.each fd f at).live }
 
 -- one goes that no open file is of
-pub other_files : (old : List (Option NodeAt)) (n : ℕ) (x : Option NodeAt) (files : List (Option OpenFile)) → ((fd : ℕ) (f : OpenFile) → file_of files fd ≡ Some f → f.node ≢ n) → AreKeptAt old (with_node old n x) files
+pub other_files : (old : List (Option NodeAt)) (n : ℕ) (x : Option NodeAt) (files : List (Option OpenFile))
+    → ((fd : ℕ) (f : OpenFile) → file_of files fd ≡ Some f → f.node ≢ n) → AreKeptAt old (with_node old n x) files
 other_files old n x files apart = record { each = λ fd f at. other_kept old n f.node x (apart fd f at) }
 
 -- one changes in place
-pub changed_files : (change : NodeRecord → NodeRecord) (old : List (Option NodeAt)) (n : ℕ) (files : List (Option OpenFile)) → ((r : NodeRecord) → (change r).kind ≡ r.kind) → AreKeptAt old (with_record change old n) files
+pub changed_files : (change : NodeRecord → NodeRecord) (old : List (Option NodeAt)) (n : ℕ) (files : List (Option OpenFile))
+    → ((r : NodeRecord) → (change r).kind ≡ r.kind) → AreKeptAt old (with_record change old n) files
 changed_files change old n files same = record { each = λ fd f at. changed_kept change old n f.node same }
 
 -- ---- the view
 
 -- the tree has changed at a path, and what is held is kept
-pub view_changes : (old new : List (Option NodeAt)) (files : List (Option OpenFile)) (caller : Caller) (line : Queues) (recheck : Bool) (path : List (List ℕ)) (now : Option NodeRecord) → nodes_from new ≡ with_node_at (nodes_from old) path now → AreKeptAt old new files → IsKeptAt old new caller.directory → view_of new files caller line recheck ≡ record (view_of old files caller line recheck) { tree = with_node_at (nodes_from old) path now }
+pub view_changes : (old new : List (Option NodeAt)) (files : List (Option OpenFile)) (caller : Caller) (line : Queues) (recheck : Bool) (path : List (List ℕ))
+    (now : Option NodeRecord)
+    → nodes_from new ≡ with_node_at (nodes_from old) path now → AreKeptAt old new files → IsKeptAt old new caller.directory
+    → view_of new files caller line recheck ≡ record (view_of old files caller line recheck) { tree = with_node_at (nodes_from old) path now }
 view_changes old new files caller line recheck path now is kept home =
     let tree : nodes_from new ≡ with_node_at (nodes_from old) path now = is in
     let fs = files_kept old new files kept in

@@ -21,7 +21,8 @@ use Rattle.file_calls.proofs.Files.{seen_at}
 use Rattle.file_calls.proofs.Rows.{refuses, gives_early}
 
 -- the machine sees the file of a number
-pub seen_there : (nodes : List (Option NodeAt)) (files : List (Option OpenFile)) (fd : ℕ) (f : OpenFile) (caller : Caller) (line : Queues) (recheck : Bool) → file_of files fd ≡ Some f → file_at (view_of nodes files caller line recheck) fd ≡ Some (seen_file nodes f)
+pub seen_there : (nodes : List (Option NodeAt)) (files : List (Option OpenFile)) (fd : ℕ) (f : OpenFile) (caller : Caller) (line : Queues) (recheck : Bool)
+    → file_of files fd ≡ Some f → file_at (view_of nodes files caller line recheck) fd ≡ Some (seen_file nodes f)
 seen_there nodes files fd f caller line recheck at = seen_at nodes files fd ∙ ap (option_map (seen_file nodes)) at
 
 -- a row that is left to another is done as the other says
@@ -45,14 +46,16 @@ of_file nodes f is other =
 
 -- ---- a read of a file that was opened to read and is not dead
 
-module _ (v : View) (fd max : ℕ) (f : SeenFile) (at : file_at v fd ≡ Some f) (within : max ≤ PIECE_BYTES) (readable : not f.file.readable ≡ false) (alive : f.dead ≡ false) where
+module _ (v : View) (fd max : ℕ) (f : SeenFile) (at : file_at v fd ≡ Some f) (within : max ≤ PIECE_BYTES) (readable : not f.file.readable ≡ false)
+    (alive : f.dead ≡ false) where
   -- the label denies
   pub read_denied : may_not_read v f ≡ true → Does v v (Answer (Denied LabelRead)) (read_row v fd max)
   read_denied denies = refuses v (read_row v fd max) LabelRead (rw (le-ltb PIECE_BYTES max within, at, readable, alive, denies) refl)
 
   -- no bytes are asked for
   pub nothing_read : may_not_read v f ≡ false → max ≡ 0 → Does v v (Answer (Bytes [])) (read_row v fd max)
-  nothing_read allows none = gives_early v (read_row v fd max) (bytes []) (rw (le-ltb PIECE_BYTES max within, at, readable, alive, allows, eq-eqb max 0 none) refl)
+  nothing_read allows none =
+      gives_early v (read_row v fd max) (bytes []) (rw (le-ltb PIECE_BYTES max within, at, readable, alive, allows, eq-eqb max 0 none) refl)
 
   -- the rest is left to the file
   pub read_left : may_not_read v f ≡ false → max ≢ 0 → IsLeftTo (read_row v fd max) (read_of v fd max f f.file.tty)

@@ -36,23 +36,28 @@ neither true b e = absurd cc
 neither false b e = (refl, e)
 
 -- a file of the node is a file at its path
-pub refers_seen : (nodes : List (Option NodeAt)) (files : List (Option OpenFile)) (node : ℕ) → list_any (is_of node) files ≡ true → list_any (is_file_of (path_of nodes node)) (seen_files nodes files) ≡ true
+pub refers_seen : (nodes : List (Option NodeAt)) (files : List (Option OpenFile)) (node : ℕ) → list_any (is_of node) files ≡ true
+    → list_any (is_file_of (path_of nodes node)) (seen_files nodes files) ≡ true
 refers_seen nodes [] node some = some
 refers_seen nodes (None ∷ files) node some = refers_seen nodes files node some
 refers_seen nodes (Some f ∷ files) node some =
-    elim (eqb f.node node) as (λ b. eqb f.node node ≡ b → (b || list_any (is_of node) files) ≡ true → list_any (is_file_of (path_of nodes node)) (seen_files nodes (Some f ∷ files)) ≡ true) [
+    elim (eqb f.node node) as
+    (λ b. eqb f.node node ≡ b → (b || list_any (is_of node) files) ≡ true
+    → list_any (is_file_of (path_of nodes node)) (seen_files nodes (Some f ∷ files)) ≡ true) [
       | true ↦ λ is e.
           let same : path_of nodes node ≡ path_of nodes f.node = ap (path_of nodes) (sym (eqb-true f.node node is)) in
           either (same_place (path_of nodes node) (path_of nodes f.node)) _ (ap (same_place (path_of nodes node)) (sym same) ∙ same_itself (path_of nodes node))
       | false ↦ λ is e.
-          elim (same_place (path_of nodes node) (path_of nodes f.node)) as (λ b. (b || list_any (is_file_of (path_of nodes node)) (seen_files nodes files)) ≡ true) [
+          elim (same_place (path_of nodes node) (path_of nodes f.node)) as
+          (λ b. (b || list_any (is_file_of (path_of nodes node)) (seen_files nodes files)) ≡ true) [
             | true ↦ refl
             | false ↦ refers_seen nodes files node e
           ]
     ] refl some
 
 -- no file is of the node
-pub none_refers : (files : List (Option OpenFile)) (node : ℕ) → list_any (is_of node) files ≡ false → (fd : ℕ) (f : OpenFile) → file_of files fd ≡ Some f → f.node ≢ node
+pub none_refers : (files : List (Option OpenFile)) (node : ℕ) → list_any (is_of node) files ≡ false → (fd : ℕ) (f : OpenFile) → file_of files fd ≡ Some f
+    → f.node ≢ node
 none_refers [] node none fd f at = absurd (let never : None ≡ Some f = at in cc)
 none_refers (None ∷ files) node none zero f at = absurd (let never : None ≡ Some f = at in cc)
 none_refers (Some g ∷ files) node none zero f at = λ same.
@@ -63,7 +68,9 @@ none_refers (Some g ∷ files) node none zero f at = λ same.
 none_refers (x ∷ files) node none (suc fd) f at = none_refers files node (neither (is_of node x) (list_any (is_of node) files) none).1 fd f at
 
 -- so none is at its path, where no other node has it
-pub none_seen : (nodes : List (Option NodeAt)) (files : List (Option OpenFile)) (node : ℕ) → ((fd : ℕ) (f : OpenFile) → file_of files fd ≡ Some f → path_of nodes node ≢ path_of nodes f.node) → list_any (is_file_of (path_of nodes node)) (seen_files nodes files) ≡ false
+pub none_seen : (nodes : List (Option NodeAt)) (files : List (Option OpenFile)) (node : ℕ)
+    → ((fd : ℕ) (f : OpenFile) → file_of files fd ≡ Some f → path_of nodes node ≢ path_of nodes f.node)
+    → list_any (is_file_of (path_of nodes node)) (seen_files nodes files) ≡ false
 none_seen nodes [] node apart = refl
 none_seen nodes (None ∷ files) node apart = none_seen nodes files node (λ fd f at. apart (suc fd) f at)
 none_seen nodes (Some f ∷ files) node apart =
@@ -86,7 +93,8 @@ some_there (Some other ∷ nodes) (suc n) named at =
     ]
 
 -- no other node has the path of one that goes
-pub alone : (old new : List (Option NodeAt)) (n m : ℕ) → new ≡ with_node old n None → ChangesAt (path_of old n) None old new → IsLive old m → m ≢ n → path_of old n ≢ path_of old m
+pub alone : (old new : List (Option NodeAt)) (n m : ℕ) → new ≡ with_node old n None → ChangesAt (path_of old n) None old new → IsLive old m → m ≢ n
+    → path_of old n ≢ path_of old m
 alone old new n m gone changes live apart = λ same.
     elim (node_by_number old m) as (λ o. node_by_number old m ≡ o → IsSome o → ⊥) [
       | None ↦ λ at some. absurd (let never : false ≡ true = some in cc)
@@ -99,7 +107,8 @@ alone old new n m gone changes live apart = λ same.
     ] refl live
 
 -- no open file is of a directory
-pub no_file_of_dir : (nodes : List (Option NodeAt)) (files : List (Option OpenFile)) (node : ℕ) → is_dir_record (record_of nodes node) ≡ true → AreOpen nodes files → (fd : ℕ) (f : OpenFile) → file_of files fd ≡ Some f → f.node ≢ node
+pub no_file_of_dir : (nodes : List (Option NodeAt)) (files : List (Option OpenFile)) (node : ℕ) → is_dir_record (record_of nodes node) ≡ true
+    → AreOpen nodes files → (fd : ℕ) (f : OpenFile) → file_of files fd ≡ Some f → f.node ≢ node
 no_file_of_dir nodes files node dir are fd f at = λ same.
     let kind : kind_of nodes node ≡ Some (kind_for f.tty) = ap (kind_of nodes) (sym same) ∙ (are.each fd f at).kind in
     elim (record_of nodes node) as (λ o. is_dir_record o ≡ true → option_map (λ (r : NodeRecord). r.kind) o ≡ Some (kind_for f.tty) → ⊥) [
@@ -122,14 +131,18 @@ abbrev pub last_lines : View → List (List ℕ) → List (Option Outcome)
 last_lines v place = line (not (is_empty_dir v.tree place)) (refused NotEmpty) ∷ line (same_place place v.caller.directory) (refused InUse) ∷ []
 
 -- it is left to them where no line before them holds
-pub first_of_last : (v : View) (place : List (List ℕ)) → is_dir_record (node_at v place) ≡ true → place ≢ [] → access_line v (parent_of place) false true false ≡ None → node_dominates v (node_at v place) ≡ true → first (rmdir_at v place).lines ≡ first (last_lines v place)
+pub first_of_last : (v : View) (place : List (List ℕ)) → is_dir_record (node_at v place) ≡ true → place ≢ []
+    → access_line v (parent_of place) false true false ≡ None → node_dominates v (node_at v place) ≡ true
+    → first (rmdir_at v place).lines ≡ first (last_lines v place)
 first_of_last v place dir some free label = rw (dir, below_root place some, free, label) refl
 
 pub not_empty_is_first : (v : View) (place : List (List ℕ)) → not (is_empty_dir v.tree place) ≡ true → first (last_lines v place) ≡ Some (refused NotEmpty)
 not_empty_is_first v place some = rw some refl
 
-pub home_is_first : (v : View) (place : List (List ℕ)) → not (is_empty_dir v.tree place) ≡ false → place ≡ v.caller.directory → first (last_lines v place) ≡ Some (refused InUse)
+pub home_is_first : (v : View) (place : List (List ℕ)) → not (is_empty_dir v.tree place) ≡ false → place ≡ v.caller.directory
+    → first (last_lines v place) ≡ Some (refused InUse)
 home_is_first v place empty home = rw (empty, ap (same_place place) (sym home) ∙ same_itself place) refl
 
-pub none_is_first : (v : View) (place : List (List ℕ)) → not (is_empty_dir v.tree place) ≡ false → place ≢ v.caller.directory → first (last_lines v place) ≡ None
+pub none_is_first : (v : View) (place : List (List ℕ)) → not (is_empty_dir v.tree place) ≡ false → place ≢ v.caller.directory
+    → first (last_lines v place) ≡ None
 none_is_first v place empty away = rw (empty, apart_places place v.caller.directory away) refl

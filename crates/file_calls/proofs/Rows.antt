@@ -45,11 +45,13 @@ goes_on old new row e is = record {
 }
 
 -- a line in front of a row refuses
-pub front_refuses : (v : View) (line : Option Outcome) (row : Row) (ruled : Rule) → line ≡ Some (refused ruled) → Does v v (Answer (Denied ruled)) (behind (line ∷ []) row)
+pub front_refuses : (v : View) (line : Option Outcome) (row : Row) (ruled : Rule) → line ≡ Some (refused ruled)
+    → Does v v (Answer (Denied ruled)) (behind (line ∷ []) row)
 front_refuses v line row ruled e = refuses v (behind (line ∷ []) row) ruled (stops line row.lines (refused ruled) e)
 
 -- it does not hold
-pub front_passes : (old new : View) (d : Decision) (line : Option Outcome) (row : Row) → line ≡ None → Does old new d row → Does old new d (behind (line ∷ []) row)
+pub front_passes : (old new : View) (d : Decision) (line : Option Outcome) (row : Row) → line ≡ None → Does old new d row
+    → Does old new d (behind (line ∷ []) row)
 front_passes old new d line row e does = record {
   state = does.state ∙ ap (λ o. change_all old (done_by o row.effects)) (sym (passes line row.lines e));
   answer = does.answer ∙ ap (λ o. decided o row.answer) (sym (passes line row.lines e));
@@ -58,15 +60,18 @@ front_passes old new d line row e does = record {
 -- ---- paths
 
 -- no rule denies the path to a node: it is left to the row of the place
-pub at_node : (old new : View) (d : Decision) (path : List ℕ) (row : List (List ℕ) → Row) (place : List (List ℕ)) → node_line old path ≡ None → path_at (end_of old path) ≡ place → Does old new d (row place) → Does old new d (on_node old path row)
+pub at_node : (old new : View) (d : Decision) (path : List ℕ) (row : List (List ℕ) → Row) (place : List (List ℕ)) → node_line old path ≡ None
+    → path_at (end_of old path) ≡ place → Does old new d (row place) → Does old new d (on_node old path row)
 at_node old new d path row place free is does =
     front_passes old new d (node_line old path) (row (path_at (end_of old path))) free (rw is does)
 
 -- a rule denies it
-pub no_node : (v : View) (path : List ℕ) (row : List (List ℕ) → Row) (ruled : Rule) → node_line v path ≡ Some (refused ruled) → Does v v (Answer (Denied ruled)) (on_node v path row)
+pub no_node : (v : View) (path : List ℕ) (row : List (List ℕ) → Row) (ruled : Rule) → node_line v path ≡ Some (refused ruled)
+    → Does v v (Answer (Denied ruled)) (on_node v path row)
 no_node v path row ruled e = front_refuses v (node_line v path) (row (path_at (end_of v path))) ruled e
 
 -- the same where the row is by the end of the walk
-pub at_end : (old new : View) (d : Decision) (path : List ℕ) (row : WalkEnd → Row) (end : WalkEnd) → path_line old path ≡ None → end_of old path ≡ end → Does old new d (row end) → Does old new d (behind (path_line old path ∷ []) (row (end_of old path)))
+pub at_end : (old new : View) (d : Decision) (path : List ℕ) (row : WalkEnd → Row) (end : WalkEnd) → path_line old path ≡ None → end_of old path ≡ end
+    → Does old new d (row end) → Does old new d (behind (path_line old path ∷ []) (row (end_of old path)))
 at_end old new d path row end free is does =
     front_passes old new d (path_line old path) (row (end_of old path)) free (rw is does)

@@ -18,40 +18,61 @@ use Rattle.file_calls.specs.Places.{end_rule, search_rules, rule_from, seen_plac
 abbrev pub walked_rule : Tree → Caller → PathWalk → Option Rule
 walked_rule tree caller walked = first (search_rules tree caller walked.passed ∷ end_rule walked.end ∷ [])
 
-parts_are_walked : (tree : Tree) (caller : Caller) (here : List (List ℕ)) (parts : List (List ℕ)) → first (part_lines tree caller.cred caller.label here parts) ≡ walked_rule tree caller (walk_from tree here parts)
+parts_are_walked : (tree : Tree) (caller : Caller) (here : List (List ℕ)) (parts : List (List ℕ))
+    → first (part_lines tree caller.cred caller.label here parts) ≡ walked_rule tree caller (walk_from tree here parts)
 unfolding part_lines walk_from
 parts_are_walked tree caller here [] = refl
 parts_are_walked tree caller here (part ∷ parts) =
-    elim (nat_lt 255 (length part)) as (λ b. nat_lt 255 (length part) ≡ b → first (part_lines tree caller.cred caller.label here (part ∷ parts)) ≡ walked_rule tree caller (walk_from tree here (part ∷ parts))) [
+    elim (nat_lt 255 (length part)) as
+    (λ b. nat_lt 255 (length part) ≡ b
+    → first (part_lines tree caller.cred caller.label here (part ∷ parts)) ≡ walked_rule tree caller (walk_from tree here (part ∷ parts))) [
       | true ↦ λ long. rw long refl
-      | false ↦ λ short. elim (is_dir_record (tree here)) as (λ b. is_dir_record (tree here) ≡ b → first (part_lines tree caller.cred caller.label here (part ∷ parts)) ≡ walked_rule tree caller (walk_from tree here (part ∷ parts))) [
-        | false ↦ λ other. rw (short, other) refl
-        | true ↦ λ dir. elim (search_rule caller.cred caller.label (tree here)) as (λ o. search_rule caller.cred caller.label (tree here) ≡ o → first (part_lines tree caller.cred caller.label here (part ∷ parts)) ≡ walked_rule tree caller (walk_from tree here (part ∷ parts))) [
-          | Some ruled ↦ λ closed. rw (short, dir, closed) refl
-          | None ↦ λ free. elim (is_parent part) as (λ b. is_parent part ≡ b → first (part_lines tree caller.cred caller.label here (part ∷ parts)) ≡ walked_rule tree caller (walk_from tree here (part ∷ parts))) [
-            | true ↦ λ up. rw (short, dir, free, up) (parts_are_walked tree caller (parent_of here) parts)
-            | false ↦ λ down. elim (is_some (tree (here ++ part ∷ []))) as (λ b. is_some (tree (here ++ part ∷ [])) ≡ b → first (part_lines tree caller.cred caller.label here (part ∷ parts)) ≡ walked_rule tree caller (walk_from tree here (part ∷ parts))) [
-              | true ↦ λ there. rw (short, dir, free, down, there) (parts_are_walked tree caller (here ++ part ∷ []) parts)
-              | false ↦ λ absent. elim parts as (λ ps. first (part_lines tree caller.cred caller.label here (part ∷ ps)) ≡ walked_rule tree caller (walk_from tree here (part ∷ ps))) [
-                | [] ↦ rw (short, dir, free, down, absent) refl
-                | next ∷ more ↦ rw (short, dir, free, down, absent) refl
-              ]
-            ] refl
+      | false ↦
+          λ short. elim (is_dir_record (tree here)) as
+          (λ b. is_dir_record (tree here) ≡ b
+          → first (part_lines tree caller.cred caller.label here (part ∷ parts)) ≡ walked_rule tree caller (walk_from tree here (part ∷ parts))) [
+            | false ↦ λ other. rw (short, other) refl
+            | true ↦
+                λ dir. elim (search_rule caller.cred caller.label (tree here)) as
+                (λ o. search_rule caller.cred caller.label (tree here) ≡ o
+                → first (part_lines tree caller.cred caller.label here (part ∷ parts)) ≡ walked_rule tree caller (walk_from tree here (part ∷ parts))) [
+                  | Some ruled ↦ λ closed. rw (short, dir, closed) refl
+                  | None ↦
+                      λ free. elim (is_parent part) as
+                      (λ b. is_parent part ≡ b
+                      → first (part_lines tree caller.cred caller.label here (part ∷ parts)) ≡ walked_rule tree caller (walk_from tree here (part ∷ parts))) [
+                        | true ↦ λ up. rw (short, dir, free, up) (parts_are_walked tree caller (parent_of here) parts)
+                        | false ↦
+                            λ down. elim (is_some (tree (here ++ part ∷ []))) as
+                            (λ b. is_some (tree (here ++ part ∷ [])) ≡ b
+                            → first (part_lines tree caller.cred caller.label here (part ∷ parts)) ≡ walked_rule tree caller (walk_from tree here (part ∷ parts))) [
+                              | true ↦ λ there. rw (short, dir, free, down, there) (parts_are_walked tree caller (here ++ part ∷ []) parts)
+                              | false ↦
+                                  λ absent. elim parts as
+                                  (λ ps. first (part_lines tree caller.cred caller.label here (part ∷ ps)) ≡ walked_rule tree caller (walk_from tree here (part ∷ ps))) [
+                                    | [] ↦ rw (short, dir, free, down, absent) refl
+                                    | next ∷ more ↦ rw (short, dir, free, down, absent) refl
+                                  ]
+                            ] refl
+                      ] refl
+                ] refl
           ] refl
-        ] refl
-      ] refl
     ] refl
 
 -- the rules of a path are those of its walk
-pub path_is_walked : (tree : Tree) (caller : Caller) (here : List (List ℕ)) (text : List ℕ) → path_rule tree caller.cred caller.label here text ≡ walked_rule tree caller (walk tree here text)
+pub path_is_walked : (tree : Tree) (caller : Caller) (here : List (List ℕ)) (text : List ℕ)
+    → path_rule tree caller.cred caller.label here text ≡ walked_rule tree caller (walk tree here text)
 unfolding walk
 path_is_walked tree caller here text =
-    elim (nat_lt 1023 (length text)) as (λ b. nat_lt 1023 (length text) ≡ b → path_rule tree caller.cred caller.label here text ≡ walked_rule tree caller (walk tree here text)) [
+    elim (nat_lt 1023 (length text)) as
+    (λ b. nat_lt 1023 (length text) ≡ b → path_rule tree caller.cred caller.label here text ≡ walked_rule tree caller (walk tree here text)) [
       | true ↦ λ long. rw long refl
-      | false ↦ λ short. elim (length text == 0) as (λ b. (length text == 0) ≡ b → path_rule tree caller.cred caller.label here text ≡ walked_rule tree caller (walk tree here text)) [
-        | true ↦ λ empty. rw (short, empty) refl
-        | false ↦ λ some. rw (short, some) (parts_are_walked tree caller (begin_at here text) (steps text))
-      ] refl
+      | false ↦
+          λ short. elim (length text == 0) as
+          (λ b. (length text == 0) ≡ b → path_rule tree caller.cred caller.label here text ≡ walked_rule tree caller (walk tree here text)) [
+            | true ↦ λ empty. rw (short, empty) refl
+            | false ↦ λ some. rw (short, some) (parts_are_walked tree caller (begin_at here text) (steps text))
+          ] refl
     ] refl
 
 -- the directories that are left, with the first of them
@@ -59,22 +80,29 @@ dirs_cons : (dirs : List ℕ) (i n : ℕ) → i < length dirs → n ≡ get_or d
 dirs_cons dirs i n within at = rw (drop-cons dirs i n within, ← at, add-one i) refl
 
 -- the first directory that is left denies
-pub closed_here : (tree : Tree) (caller : Caller) (path : ℕ → List (List ℕ)) (dirs : List ℕ) (i n : ℕ) (ruled : Rule) → i < length dirs → n ≡ get_or dirs i n → search_rule caller.cred caller.label (tree (path n)) ≡ Some ruled → search_rules tree caller (map path (drop i dirs)) ≡ Some ruled
+pub closed_here : (tree : Tree) (caller : Caller) (path : ℕ → List (List ℕ)) (dirs : List ℕ) (i n : ℕ) (ruled : Rule) → i < length dirs → n ≡ get_or dirs i n
+    → search_rule caller.cred caller.label (tree (path n)) ≡ Some ruled → search_rules tree caller (map path (drop i dirs)) ≡ Some ruled
 closed_here tree caller path dirs i n ruled within at is = rw (dirs_cons dirs i n within at, is) refl
 
 -- the first directory that is left does not deny
-pub open_here : (tree : Tree) (caller : Caller) (path : ℕ → List (List ℕ)) (dirs : List ℕ) (i n : ℕ) → i < length dirs → n ≡ get_or dirs i n → search_rule caller.cred caller.label (tree (path n)) ≡ None → search_rules tree caller (map path (drop i dirs)) ≡ search_rules tree caller (map path (drop (i + 1) dirs))
+pub open_here : (tree : Tree) (caller : Caller) (path : ℕ → List (List ℕ)) (dirs : List ℕ) (i n : ℕ) → i < length dirs → n ≡ get_or dirs i n
+    → search_rule caller.cred caller.label (tree (path n)) ≡ None
+    → search_rules tree caller (map path (drop i dirs)) ≡ search_rules tree caller (map path (drop (i + 1) dirs))
 open_here tree caller path dirs i n within at is = rw (dirs_cons dirs i n within at, is) refl
 
-seen_is : (nodes : List (Option NodeAt)) (walk : Walk) (walked : PathWalk) → paths_of_walk nodes walk ≡ walked → (map (path_of nodes) walk.passed.items ≡ walked.passed) × (paths_of_end nodes walk.end ≡ walked.end)
+seen_is : (nodes : List (Option NodeAt)) (walk : Walk) (walked : PathWalk) → paths_of_walk nodes walk ≡ walked
+    → (map (path_of nodes) walk.passed.items ≡ walked.passed) × (paths_of_end nodes walk.end ≡ walked.end)
 seen_is nodes walk walked same = (ap (λ (w : PathWalk). w.passed) same, ap (λ (w : PathWalk). w.end) same)
 
 -- the walk that the table gives is that of the map
-pub walked_in_map : (nodes : List (Option NodeAt)) (here : List (List ℕ)) (text : List ℕ) (walked : Walk) → paths_of_walk nodes walked ≡ walk (tree_of nodes) here text → paths_of_walk nodes walked ≡ walk (at_path (nodes_from nodes)) here text
+pub walked_in_map : (nodes : List (Option NodeAt)) (here : List (List ℕ)) (text : List ℕ) (walked : Walk)
+    → paths_of_walk nodes walked ≡ walk (tree_of nodes) here text → paths_of_walk nodes walked ≡ walk (at_path (nodes_from nodes)) here text
 walked_in_map nodes here text walked same = same ∙ ap (λ (tree : Tree). walk tree here text) (sym (tree_is nodes))
 
 -- a directory on the way denies
-pub denied_on_the_way : (nodes : List (Option NodeAt)) (caller : Caller) (text : List ℕ) (walked : Walk) (ruled : Rule) → paths_of_walk nodes walked ≡ walk (tree_of nodes) (path_of nodes caller.directory) text → Some ruled ≡ search_rules (at_path (nodes_from nodes)) caller (map (path_of nodes) walked.passed.items) → rule_from nodes caller text ≡ Some ruled
+pub denied_on_the_way : (nodes : List (Option NodeAt)) (caller : Caller) (text : List ℕ) (walked : Walk) (ruled : Rule)
+    → paths_of_walk nodes walked ≡ walk (tree_of nodes) (path_of nodes caller.directory) text
+    → Some ruled ≡ search_rules (at_path (nodes_from nodes)) caller (map (path_of nodes) walked.passed.items) → rule_from nodes caller text ≡ Some ruled
 denied_on_the_way nodes caller text walked ruled same closed =
     let tree : Tree = at_path (nodes_from nodes) in
     let whole : PathWalk = walk tree (path_of nodes caller.directory) text in
@@ -83,7 +111,10 @@ denied_on_the_way nodes caller text walked ruled same closed =
     path_is_walked tree caller (path_of nodes caller.directory) text ∙ rw by refl
 
 -- no directory on the way denies, so it is left to the end
-rule_at_end : (nodes : List (Option NodeAt)) (caller : Caller) (text : List ℕ) (walked : Walk) → paths_of_walk nodes walked ≡ walk (tree_of nodes) (path_of nodes caller.directory) text → None ≡ search_rules (at_path (nodes_from nodes)) caller (map (path_of nodes) walked.passed.items) → rule_from nodes caller text ≡ end_rule (paths_of_end nodes walked.end)
+rule_at_end : (nodes : List (Option NodeAt)) (caller : Caller) (text : List ℕ) (walked : Walk)
+    → paths_of_walk nodes walked ≡ walk (tree_of nodes) (path_of nodes caller.directory) text
+    → None ≡ search_rules (at_path (nodes_from nodes)) caller (map (path_of nodes) walked.passed.items)
+    → rule_from nodes caller text ≡ end_rule (paths_of_end nodes walked.end)
 rule_at_end nodes caller text walked same free =
     let tree : Tree = at_path (nodes_from nodes) in
     let whole : PathWalk = walk tree (path_of nodes caller.directory) text in
@@ -93,10 +124,19 @@ rule_at_end nodes caller text walked same free =
     path_is_walked tree caller (path_of nodes caller.directory) text ∙ rw none (one (end_rule whole.end) ∙ ap end_rule (sym is.1))
 
 -- the answer at the end
-pub leads : (nodes : List (Option NodeAt)) (caller : Caller) (text : List ℕ) (walked : Walk) (answer : Result Place Rule) → paths_of_walk nodes walked ≡ walk (tree_of nodes) (path_of nodes caller.directory) text → None ≡ search_rules (at_path (nodes_from nodes)) caller (map (path_of nodes) walked.passed.items) → IfOk answer (λ place. paths_of_end nodes walked.end ≡ seen_place nodes place) → IfOk answer (IsLivePlace nodes) → rule_of answer ≡ end_rule (paths_of_end nodes walked.end) → MatchResult answer (LeadsTo nodes caller text) (λ denied. rule_from nodes caller text ≡ Some denied)
+pub leads : (nodes : List (Option NodeAt)) (caller : Caller) (text : List ℕ) (walked : Walk) (answer : Result Place Rule)
+    → paths_of_walk nodes walked ≡ walk (tree_of nodes) (path_of nodes caller.directory) text
+    → None ≡ search_rules (at_path (nodes_from nodes)) caller (map (path_of nodes) walked.passed.items)
+    → IfOk answer (λ place. paths_of_end nodes walked.end ≡ seen_place nodes place) → IfOk answer (IsLivePlace nodes)
+    → rule_of answer ≡ end_rule (paths_of_end nodes walked.end)
+    → MatchResult answer (LeadsTo nodes caller text) (λ denied. rule_from nodes caller text ≡ Some denied)
 leads nodes caller text walked (Err named) same free ends live ruled = rule_at_end nodes caller text walked same free ∙ sym ruled
 leads nodes caller text walked (Ok place) same free ends live ruled = record {
   allowed = rule_at_end nodes caller text walked same free ∙ sym ruled;
-  ends = sym (seen_is nodes walked (walk (at_path (nodes_from nodes)) (path_of nodes caller.directory) text) (walked_in_map nodes (path_of nodes caller.directory) text walked same)).1 ∙ ends;
+  ends =
+      sym
+      (seen_is nodes walked (walk (at_path (nodes_from nodes)) (path_of nodes caller.directory) text)
+      (walked_in_map nodes (path_of nodes caller.directory) text walked same)).1
+      ∙ ends;
   live = live;
 }

@@ -37,14 +37,16 @@ unfolding bytes_in with_node_at
 one_of_all path node [] = omega (arith, sum_by-cons (λ (n : List (List ℕ) × NodeRecord). length n.1.contents) (path, node) [])
 one_of_all path node (n ∷ nodes) =
     let f : List (List ℕ) × NodeRecord → ℕ = λ n. length n.1.contents in
-    elim (path_cmp path n.0) as (λ r. length node.contents ≤ sum_by f (by_order r ((path, node) ∷ n ∷ nodes) ((n.0, node) ∷ nodes) (n ∷ put path_cmp path node nodes))) [
+    elim (path_cmp path n.0) as
+    (λ r. length node.contents ≤ sum_by f (by_order r ((path, node) ∷ n ∷ nodes) ((n.0, node) ∷ nodes) (n ∷ put path_cmp path node nodes))) [
       | Less ↦ omega (arith, sum_by-cons f (path, node) (n ∷ nodes))
       | Equal ↦ omega (arith, sum_by-cons f (n.0, node) nodes)
       | Greater ↦ omega (arith, sum_by-cons f n (put path_cmp path node nodes), one_of_all path node nodes)
     ]
 
 -- the place behind the bytes is in what all files hold
-behind_in : (nodes : Nodes) (path : List (List ℕ)) (o : Option NodeRecord) (r : NodeRecord) (place : ℕ) (bs : List ℕ) → o ≡ Some r → 0 < length bs → place + length bs ≤ bytes_in (with_node_at nodes path (option_map (with_write place bs) o))
+behind_in : (nodes : Nodes) (path : List (List ℕ)) (o : Option NodeRecord) (r : NodeRecord) (place : ℕ) (bs : List ℕ) → o ≡ Some r → 0 < length bs
+    → place + length bs ≤ bytes_in (with_node_at nodes path (option_map (with_write place bs) o))
 behind_in nodes path o r place bs is some =
     rw is (omega (arith, one_of_all path (with_write place bs r) nodes, length_written r.contents bs place some))
 
@@ -72,33 +74,48 @@ abbrev pub bytes_then : List (Option NodeAt) → OpenFile → ℕ → List ℕ �
 bytes_then nodes f place bs = bytes_in (with_node_at (nodes_from nodes) (path_of nodes f.node) (option_map (with_write place bs) (record_of nodes f.node)))
 
 -- the place behind the bytes is in what all files hold then
-pub behind_bytes : (nodes : List (Option NodeAt)) (f : OpenFile) (place : ℕ) (bs : List ℕ) → IsFile nodes f.node → 0 < length bs → place + length bs ≤ bytes_then nodes f place bs
+pub behind_bytes : (nodes : List (Option NodeAt)) (f : OpenFile) (place : ℕ) (bs : List ℕ) → IsFile nodes f.node → 0 < length bs
+    → place + length bs ≤ bytes_then nodes f place bs
 behind_bytes nodes f place bs is some =
     let here = file_there (record_of nodes f.node) is in
     behind_in (nodes_from nodes) (path_of nodes f.node) (record_of nodes f.node) here.0 place bs here.1 some
 
-module _ (old : List (Option NodeAt)) (files : List (Option OpenFile)) (caller : Caller) (lines : Queues) (recheck : Bool) (fd : ℕ) (bs : List ℕ) (f : OpenFile) (place : ℕ) (other : f.tty ≡ None) (there : record_of old f.node ≡ what_is old f.node) (at : place ≡ write_place (view_of old files caller lines recheck) (seen_file old f)) (left : IsLeftTo (write_row (view_of old files caller lines recheck) fd bs) (write_of (view_of old files caller lines recheck) fd bs (seen_file old f) f.tty)) where
-  only_space : first (write_row (view_of old files caller lines recheck) fd bs).lines ≡ first (line (nat_lt FILE_SPACE (bytes_then old f place bs)) (refused FileSpace) ∷ [])
-  only_space = left.line ∙ rw (other, at, there) refl
+module _ (old : List (Option NodeAt)) (files : List (Option OpenFile)) (caller : Caller) (lines : Queues) (recheck : Bool) (fd : ℕ) (bs : List ℕ) (f : OpenFile)
+    (place : ℕ) (other : f.tty ≡ None) (there : record_of old f.node ≡ what_is old f.node)
+    (at : place ≡ write_place (view_of old files caller lines recheck) (seen_file old f))
+    (left : IsLeftTo (write_row (view_of old files caller lines recheck) fd bs)
+    (write_of (view_of old files caller lines recheck) fd bs (seen_file old f) f.tty))
+  where
+    only_space : first (write_row (view_of old files caller lines recheck) fd bs).lines ≡ first
+        (line (nat_lt FILE_SPACE (bytes_then old f place bs)) (refused FileSpace) ∷ [])
+    only_space = left.line ∙ rw (other, at, there) refl
 
-  -- there is no room
-  pub space_denied : FILE_SPACE < bytes_then old f place bs → Does (view_of old files caller lines recheck) (view_of old files caller lines recheck) (Answer (Denied FileSpace)) (write_row (view_of old files caller lines recheck) fd bs)
-  space_denied over = refuses (view_of old files caller lines recheck) (write_row (view_of old files caller lines recheck) fd bs) FileSpace (only_space ∙ rw (lt-ltb FILE_SPACE (bytes_then old f place bs) over) refl)
+    -- there is no room
+    pub space_denied : FILE_SPACE < bytes_then old f place bs
+        → Does (view_of old files caller lines recheck) (view_of old files caller lines recheck) (Answer (Denied FileSpace))
+        (write_row (view_of old files caller lines recheck) fd bs)
+    space_denied over =
+        refuses (view_of old files caller lines recheck) (write_row (view_of old files caller lines recheck) fd bs) FileSpace
+        (only_space ∙ rw (lt-ltb FILE_SPACE (bytes_then old f place bs) over) refl)
 
-  -- there is, so no line holds
-  pub nothing_denied : bytes_then old f place bs ≤ FILE_SPACE → first (write_row (view_of old files caller lines recheck) fd bs).lines ≡ None
-  nothing_denied fits = only_space ∙ rw (le-ltb FILE_SPACE (bytes_then old f place bs) fits) refl
+    -- there is, so no line holds
+    pub nothing_denied : bytes_then old f place bs ≤ FILE_SPACE → first (write_row (view_of old files caller lines recheck) fd bs).lines ≡ None
+    nothing_denied fits = only_space ∙ rw (le-ltb FILE_SPACE (bytes_then old f place bs) fits) refl
 
-  -- the bytes are put
-  pub writes : (new : List (Option NodeAt)) → new ≡ with_record (with_write place bs) old f.node → nodes_from new ≡ with_node_at (nodes_from old) (path_of old f.node) (whole old f place bs) → bytes_then old f place bs ≤ FILE_SPACE → Does (view_of old files caller lines recheck) (view_of new (moved_to fd (place + length bs) files) caller lines recheck) (Answer (Num (length bs))) (write_row (view_of old files caller lines recheck) fd bs)
-  writes new put map fits =
-      let v = view_of old files caller lines recheck in
-      let row = write_row v fd bs in
-      let moved = moved_to fd (place + length bs) files in
-      let kept = changed_files (with_write place bs) old f.node moved (λ r. refl) in
-      let home = changed_kept (with_write place bs) old f.node caller.directory (λ r. refl) in
-      subst (λ d. Does v (view_of new moved caller lines recheck) d row) (ap answered left.answer ∙ rw other refl) (goes_on v _ row (nothing_denied fits)
-      (view_changes old new moved caller lines recheck (path_of old f.node) (whole old f place bs) map (rw put kept) (rw put home)
-      ∙ ap (λ ds. record v { descriptors = ds; tree = with_node_at (nodes_from old) (path_of old f.node) (whole old f place bs) }) (seen_moved old files fd (place + length bs))
-      ∙ rw (other, at, there) refl
-      ∙ ap (change_all v) (sym left.effects)))
+    -- the bytes are put
+    pub writes : (new : List (Option NodeAt)) → new ≡ with_record (with_write place bs) old f.node
+        → nodes_from new ≡ with_node_at (nodes_from old) (path_of old f.node) (whole old f place bs) → bytes_then old f place bs ≤ FILE_SPACE
+        → Does (view_of old files caller lines recheck) (view_of new (moved_to fd (place + length bs) files) caller lines recheck) (Answer (Num (length bs)))
+        (write_row (view_of old files caller lines recheck) fd bs)
+    writes new put map fits =
+        let v = view_of old files caller lines recheck in
+        let row = write_row v fd bs in
+        let moved = moved_to fd (place + length bs) files in
+        let kept = changed_files (with_write place bs) old f.node moved (λ r. refl) in
+        let home = changed_kept (with_write place bs) old f.node caller.directory (λ r. refl) in
+        subst (λ d. Does v (view_of new moved caller lines recheck) d row) (ap answered left.answer ∙ rw other refl) (goes_on v _ row (nothing_denied fits)
+        (view_changes old new moved caller lines recheck (path_of old f.node) (whole old f place bs) map (rw put kept) (rw put home)
+        ∙ ap (λ ds. record v { descriptors = ds; tree = with_node_at (nodes_from old) (path_of old f.node) (whole old f place bs) })
+        (seen_moved old files fd (place + length bs))
+        ∙ rw (other, at, there) refl
+        ∙ ap (change_all v) (sym left.effects)))

@@ -12,6 +12,7 @@ ghost use Rattle.file_calls.specs.declared.descriptors.OpenFile.{OpenFile};
 ghost use Rattle.file_calls.specs.Views.{seen_caller, view_of};
 
 use crate::Caller;
+use crate::parts::push_part;
 use acl_core::MOST_GROUPS;
 use arrayvec::ArrayVec;
 use call_words::{Decision, TEXT_BYTES, TextBuf, push_bytes, push_number};
@@ -49,16 +50,6 @@ fn push_groups(out: &mut Text, groups: &[u32])
             push_others(out, others);
         }
     }
-}
-
-/// Adds a colon and a number in decimal.
-fn push_part(out: &mut Text, number: u32)
-    requires { array_vec_len out.old + 11 ≤ TEXT_BYTES }
-    ensures bytes { out.new.items ≡ out.old.items ++ codes ":" ++ decimal number }
-    ensures len { array_vec_len out.new ≤ array_vec_len out.old + 11 }
-{
-    push_bytes(out, b":");
-    push_number(out, number);
 }
 
 /// What is told of a caller. Its process is the one process, of number 1.

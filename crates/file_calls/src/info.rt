@@ -11,9 +11,10 @@ ghost use Rattle.file_calls.specs.Views.{IsHome, view_of};
 
 use crate::Caller;
 use crate::access::label_reads;
+use crate::parts::push_part;
 use crate::place::find_node;
 use arrayvec::ArrayVec;
-use call_words::{Decision, Kind, Node, PathText, Rule, TextBuf};
+use call_words::{Decision, Kind, Node, PathText, Rule, TextBuf, push_bytes};
 use vnode_tree::Tree;
 
 /// How many bytes what is told has at most: a word of 4, three numbers of 10, a mode of 3, and 4 colons.
@@ -47,24 +48,6 @@ fn three_digits(mode: u16) -> [u8; 3]
     ]
 }
 
-/// Adds bytes at the end, for which there is room.
-fn push(out: &mut Info, bytes: &[u8])
-    requires { length out.old.items + length bytes.now ≤ INFO_BYTES }
-    ensures { out.new.items ≡ out.old.items ++ bytes.now }
-{
-    let _ = out.try_extend_from_slice(bytes);
-}
-
-/// Adds a colon and a number in decimal, of at most ten digits.
-fn push_number(out: &mut Info, number: u32)
-    requires { length out.old.items + 11 ≤ INFO_BYTES }
-    ensures bytes { out.new.items ≡ out.old.items ++ codes ":" ++ decimal number }
-    ensures most { length out.new.items ≤ length out.old.items + 11 }
-{
-    push(out, b":");
-    push(out, itoa::Buffer::new().format(number).as_bytes());
-}
-
 /// The size of a node in bytes, which only a file has.
 fn size(tree: &Tree, node: Node) -> u32
     requires { IsLive tree.now node }
@@ -83,13 +66,13 @@ fn info(tree: &Tree, node: Node) -> TextBuf
     ensures { result ≡ info_text (what_is tree.now node) }
 {
     let attrs = tree.attrs(node);
-    let mut out = ArrayVec::new();
-    push(&mut out, kind_word(tree.kind(node)));
-    push_number(&mut out, attrs.owner);
-    push_number(&mut out, attrs.group);
-    push(&mut out, b":");
-    push(&mut out, &three_digits(attrs.list.mode_of()));
-    push_number(&mut out, size(tree, node));
+    let mut out: Info = ArrayVec::new();
+    push_bytes(&mut out, kind_word(tree.kind(node)));
+    push_part(&mut out, attrs.owner);
+    push_part(&mut out, attrs.group);
+    push_bytes(&mut out, b":");
+    push_bytes(&mut out, &three_digits(attrs.list.mode_of()));
+    push_part(&mut out, size(tree, node));
     TextBuf::from_slice(out.as_slice()).unwrap()
 }
 

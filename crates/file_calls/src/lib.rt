@@ -19,6 +19,7 @@ mod make;
 mod modes;
 mod moves;
 mod opens;
+mod parts;
 mod place;
 mod process;
 mod revoke;

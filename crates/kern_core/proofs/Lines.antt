@@ -29,38 +29,50 @@ some_number None h = cc
 some_number (Some n) h = refl
 
 -- the file of a number is one of a line
-pub of_line : (files : List (Option OpenFile)) (fd : ℕ) (f : OpenFile) (o : Option ℕ) (none : Bool) → own.file_of files fd ≡ Some f → o ≡ own.tty_of files fd → is_some o ≡ not none → none ≡ false → is_some f.tty ≡ true
+pub of_line : (files : List (Option OpenFile)) (fd : ℕ) (f : OpenFile) (o : Option ℕ) (none : Bool) → own.file_of files fd ≡ Some f → o ≡ own.tty_of files fd
+    → is_some o ≡ not none → none ≡ false → is_some f.tty ≡ true
 of_line files fd f o none here is some not_none = ap is_some (sym (is ∙ ap (option_and_then (λ (file : OpenFile). file.tty)) here)) ∙ some ∙ ap not not_none
 
 module _ (nodes : List (Option NodeAt)) (files : List (Option OpenFile)) (caller : Caller) (queues : Queues) (recheck : Bool) where
   -- a byte is dropped, or joins the input
-  pub byte_dropped : (b : ℕ) → own.any_live files ≡ false → Does (view_of nodes files caller queues recheck) (view_of nodes files caller queues recheck) Noted (byte_row (view_of nodes files caller queues recheck) b)
+  pub byte_dropped : (b : ℕ) → own.any_live files ≡ false
+      → Does (view_of nodes files caller queues recheck) (view_of nodes files caller queues recheck) Noted
+      (byte_row (view_of nodes files caller queues recheck) b)
   byte_dropped b dead =
       gives_early (view_of nodes files caller queues recheck) (byte_row (view_of nodes files caller queues recheck) b) noted
       (rw (seen_live nodes files, dead) refl)
 
-  pub byte_too_many : (b : ℕ) → own.any_live files ≡ true → leb 1024 (length queues.input) ≡ true → Does (view_of nodes files caller queues recheck) (view_of nodes files caller queues recheck) Noted (byte_row (view_of nodes files caller queues recheck) b)
+  pub byte_too_many : (b : ℕ) → own.any_live files ≡ true → leb 1024 (length queues.input) ≡ true
+      → Does (view_of nodes files caller queues recheck) (view_of nodes files caller queues recheck) Noted
+      (byte_row (view_of nodes files caller queues recheck) b)
   byte_too_many b live full =
       gives_early (view_of nodes files caller queues recheck) (byte_row (view_of nodes files caller queues recheck) b) noted
       (rw (seen_live nodes files, live, full) refl)
 
-  pub byte_added : (b : ℕ) → own.any_live files ≡ true → leb 1024 (length queues.input) ≡ false → Does (view_of nodes files caller queues recheck) (view_of nodes files caller (record queues { input = queues.input ++ b ∷ [] }) recheck) Noted (byte_row (view_of nodes files caller queues recheck) b)
+  pub byte_added : (b : ℕ) → own.any_live files ≡ true → leb 1024 (length queues.input) ≡ false
+      → Does (view_of nodes files caller queues recheck) (view_of nodes files caller (record queues { input = queues.input ++ b ∷ [] }) recheck) Noted
+      (byte_row (view_of nodes files caller queues recheck) b)
   byte_added b live room =
       goes_on (view_of nodes files caller queues recheck) _ (byte_row (view_of nodes files caller queues recheck) b)
       (rw (seen_live nodes files, live, room) refl) refl
 
-  pub nothing_taken : (max : ℕ) → own.any_live files ≡ false → Does (view_of nodes files caller queues recheck) (view_of nodes files caller queues recheck) (Taken []) (take_row (view_of nodes files caller queues recheck) max)
+  pub nothing_taken : (max : ℕ) → own.any_live files ≡ false
+      → Does (view_of nodes files caller queues recheck) (view_of nodes files caller queues recheck) (Taken [])
+      (take_row (view_of nodes files caller queues recheck) max)
   nothing_taken max dead =
       gives_early (view_of nodes files caller queues recheck) (take_row (view_of nodes files caller queues recheck) max) (taken [])
       (rw (seen_live nodes files, dead) refl)
 
-  pub some_taken : (max : ℕ) → own.any_live files ≡ true → Does (view_of nodes files caller queues recheck) (view_of nodes files caller (record queues { output = drop max queues.output }) recheck) (Taken (take max queues.output)) (take_row (view_of nodes files caller queues recheck) max)
+  pub some_taken : (max : ℕ) → own.any_live files ≡ true
+      → Does (view_of nodes files caller queues recheck) (view_of nodes files caller (record queues { output = drop max queues.output }) recheck)
+      (Taken (take max queues.output)) (take_row (view_of nodes files caller queues recheck) max)
   some_taken max live =
       goes_on (view_of nodes files caller queues recheck) _ (take_row (view_of nodes files caller queues recheck) max)
       (rw (seen_live nodes files, live) refl) refl
 
   -- a file of the line is closed, and was its last live one or was not
-  last_live : (fd : ℕ) (f : OpenFile) (b : Bool) → own.file_of files fd ≡ Some f → is_some f.tty ≡ true → (not f.dead && not (own.any_live (set files fd None))) ≡ b → is_last_live (view_of nodes files caller queues recheck) fd ≡ b
+  last_live : (fd : ℕ) (f : OpenFile) (b : Bool) → own.file_of files fd ≡ Some f → is_some f.tty ≡ true
+      → (not f.dead && not (own.any_live (set files fd None))) ≡ b → is_last_live (view_of nodes files caller queues recheck) fd ≡ b
   last_live fd f b here tty last =
       ap (λ o. is_live o && not (any_live (set (seen_files nodes files) fd None))) (seen_at nodes files fd ∙ ap (option_map (seen_file nodes)) here)
       ∙ ap (λ fs. is_live (Some (seen_file nodes f)) && not (any_live fs)) (sym (seen_set nodes files fd None))
@@ -68,11 +80,34 @@ module _ (nodes : List (Option NodeAt)) (files : List (Option OpenFile)) (caller
       ∙ ap (λ t. (t && not f.dead) && not (own.any_live (set files fd None))) tty
       ∙ last
 
-  closed_effects : (fd : ℕ) (b : Bool) → view_of nodes (set files fd None) caller (cond b (record { input = []; output = [] }) queues) recheck ≡ change_all (view_of nodes files caller queues recheck) (dropped fd ∷ cond b (emptied ∷ []) [])
-  closed_effects fd true = ap (λ ds. record { descriptors = ds; line = record { input = []; output = [] }; tree = nodes_from nodes; caller = (view_of nodes files caller queues recheck).caller; recheck = recheck }) (seen_set nodes files fd None)
-  closed_effects fd false = ap (λ ds. record { descriptors = ds; line = queues; tree = nodes_from nodes; caller = (view_of nodes files caller queues recheck).caller; recheck = recheck }) (seen_set nodes files fd None)
+  closed_effects : (fd : ℕ) (b : Bool)
+      → view_of nodes (set files fd None) caller (cond b (record { input = []; output = [] }) queues) recheck
+      ≡ change_all (view_of nodes files caller queues recheck) (dropped fd ∷ cond b (emptied ∷ []) [])
+  closed_effects fd true =
+      ap
+      (λ ds. record {
+        descriptors = ds;
+        line = record { input = []; output = [] };
+        tree = nodes_from nodes;
+        caller = (view_of nodes files caller queues recheck).caller;
+        recheck = recheck;
+      })
+      (seen_set nodes files fd None)
+  closed_effects fd false =
+      ap
+      (λ ds. record {
+        descriptors = ds;
+        line = queues;
+        tree = nodes_from nodes;
+        caller = (view_of nodes files caller queues recheck).caller;
+        recheck = recheck;
+      })
+      (seen_set nodes files fd None)
 
-  pub line_closed : (fd : ℕ) (f : OpenFile) (b : Bool) → own.file_of files fd ≡ Some f → is_some f.tty ≡ true → (not f.dead && not (own.any_live (set files fd None))) ≡ b → Does (view_of nodes files caller queues recheck) (view_of nodes (set files fd None) caller (cond b (record { input = []; output = [] }) queues) recheck) (Answer (Num 0)) (close_row (view_of nodes files caller queues recheck) fd)
+  pub line_closed : (fd : ℕ) (f : OpenFile) (b : Bool) → own.file_of files fd ≡ Some f → is_some f.tty ≡ true
+      → (not f.dead && not (own.any_live (set files fd None))) ≡ b
+      → Does (view_of nodes files caller queues recheck) (view_of nodes (set files fd None) caller (cond b (record { input = []; output = [] }) queues) recheck)
+      (Answer (Num 0)) (close_row (view_of nodes files caller queues recheck) fd)
   line_closed fd f b here tty last =
       let v = view_of nodes files caller queues recheck in
       goes_on v _ (close_row v fd)
@@ -80,11 +115,13 @@ module _ (nodes : List (Option NodeAt)) (files : List (Option OpenFile)) (caller
       (closed_effects fd b ∙ ap (λ l. change_all v (dropped fd ∷ cond l (emptied ∷ []) [])) (sym (last_live fd f b here tty last)))
 
   -- a taking would give a byte
-  pub wakes_line : gives_a_byte (answer_to (view_of nodes files caller queues recheck) (event.Take 7 512)) ≡ (own.any_live files && not (length queues.output == 0))
+  pub wakes_line : gives_a_byte (answer_to (view_of nodes files caller queues recheck) (event.Take 7 512)) ≡
+      (own.any_live files && not (length queues.output == 0))
   wakes_line = gives-take (view_of nodes files caller queues recheck) ∙ ap (λ b. b && not (length queues.output == 0)) (seen_live nodes files)
 
 -- the tables as they stand at boot
-pub seen_boot : (says : Boot) (nodes : List (Option NodeAt)) (caller : Caller) → nodes_from nodes ≡ standard_tree says → path_of nodes caller.directory ≡ [] → caller.cred ≡ first_caller.cred → caller.label ≡ first_caller.label → caller.umask ≡ 18
+pub seen_boot : (says : Boot) (nodes : List (Option NodeAt)) (caller : Caller) → nodes_from nodes ≡ standard_tree says → path_of nodes caller.directory ≡ []
+    → caller.cred ≡ first_caller.cred → caller.label ≡ first_caller.label → caller.umask ≡ 18
     → view_of nodes (replicate 32 None) caller (record { input = []; output = [] }) says.recheck ≡ view (boot says)
 unfolding boot
 seen_boot says nodes caller tree home cred label umask = rw (tree, home, cred, label, umask) refl
@@ -97,17 +134,23 @@ none_map : (o : Option OpenFile) (seen : OpenFile → SeenFile) → is_none (opt
 none_map None seen h = h
 none_map (Some f) seen h = refl
 
-none_false : (o : Option OpenFile) → (seen : OpenFile → SeenFile) → ((f : OpenFile) → (seen f).file.tty ≡ f.tty) → option_and_then (λ (f : OpenFile). f.tty) o ≡ None → is_none o ≡ false → is_regular (option_map seen o) ≡ true
+none_false : (o : Option OpenFile) → (seen : OpenFile → SeenFile) → ((f : OpenFile) → (seen f).file.tty ≡ f.tty)
+    → option_and_then (λ (f : OpenFile). f.tty) o ≡ None → is_none o ≡ false → is_regular (option_map seen o) ≡ true
 none_false None seen same none some = cc
 none_false (Some f) seen same none some = ap is_none (same f ∙ none)
 
 -- a write that no line denies, to a number that is none of the line, is one to a regular file
-pub is_regular_file : (nodes : List (Option NodeAt)) (files : List (Option OpenFile)) (caller : Caller) (queues : Queues) (recheck : Bool) (fd : ℕ) (bs : List ℕ) → own.tty_of files fd ≡ None → first (write_row (view_of nodes files caller queues recheck) fd bs).lines ≡ None → is_regular (file_at (view_of nodes files caller queues recheck) fd) ≡ true
+pub is_regular_file : (nodes : List (Option NodeAt)) (files : List (Option OpenFile)) (caller : Caller) (queues : Queues) (recheck : Bool) (fd : ℕ)
+    (bs : List ℕ)
+    → own.tty_of files fd ≡ None → first (write_row (view_of nodes files caller queues recheck) fd bs).lines ≡ None
+    → is_regular (file_at (view_of nodes files caller queues recheck) fd) ≡ true
 is_regular_file nodes files caller queues recheck fd bs none free =
     let v = view_of nodes files caller queues recheck in
     let seen = seen_at nodes files fd in
     let some : is_none (file_at v fd) ≡ false = first_none (is_none (file_at v fd)) _ free in
-    ap is_regular seen ∙ none_false (own.file_of files fd) (seen_file nodes) (λ f. refl) none (none_map (own.file_of files fd) (seen_file nodes) (sym (ap is_none seen) ∙ some))
+    ap is_regular seen
+    ∙ none_false (own.file_of files fd) (seen_file nodes) (λ f. refl) none
+    (none_map (own.file_of files fd) (seen_file nodes) (sym (ap is_none seen) ∙ some))
 
 -- what follows where a call finds no memory
 pub on_error : {A E P Q : Type 0} (r : Result A E) → (P → Q) → OnErr r P → OnErr r Q
@@ -115,6 +158,7 @@ on_error (Ok a) h p = p
 on_error (Err e) h p = h p
 
 -- the file of a number is none of the line
-pub no_line : (files : List (Option OpenFile)) (fd : ℕ) (o : Option ℕ) (none : Bool) → o ≡ own.tty_of files fd → is_some o ≡ not none → none ≡ true → own.tty_of files fd ≡ None
+pub no_line : (files : List (Option OpenFile)) (fd : ℕ) (o : Option ℕ) (none : Bool) → o ≡ own.tty_of files fd → is_some o ≡ not none → none ≡ true
+    → own.tty_of files fd ≡ None
 no_line files fd None none is some given = sym is
 no_line files fd (Some n) none is some given = absurd (let never : true ≡ false = some ∙ ap not given in cc)

@@ -39,7 +39,9 @@ record Allows (subject : Subject) (node : Attrs) (read write : Bool) : Type 0 wh
   reads : read ≡ true → dom subject.active node.element ≡ true
   writes : write ≡ true → dom node.element subject.active ≡ true
 
-first_two : (r w d e : Bool) (more : List (Option Rule)) → rules.first (rules.line ((r || false) && not d) LabelRead ∷ rules.line (w && not e) LabelWrite ∷ more) ≡ None → (r ≡ true → d ≡ true) × (w ≡ true → e ≡ true)
+first_two : (r w d e : Bool) (more : List (Option Rule))
+    → rules.first (rules.line ((r || false) && not d) LabelRead ∷ rules.line (w && not e) LabelWrite ∷ more) ≡ None
+    → (r ≡ true → d ≡ true) × (w ≡ true → e ≡ true)
 first_two true true true true more h = (λ _. refl, λ _. refl)
 first_two true true true false more h = cc
 first_two true true false e more h = cc
@@ -49,9 +51,12 @@ first_two false true d true more h = (λ is. cc, λ _. refl)
 first_two false true d false more h = cc
 first_two false false d e more h = (λ is. cc, λ is. cc)
 
-allows : (cred : Cred) (subject : Subject) (node : Attrs) (read write : Bool) → rules.refusal cred subject node read write false ≡ None → Allows subject node read write
+allows : (cred : Cred) (subject : Subject) (node : Attrs) (read write : Bool) → rules.refusal cred subject node read write false ≡ None
+    → Allows subject node read write
 allows cred subject node read write h =
-    let both = first_two read write (dom subject.active node.element) (dom node.element subject.active) (rules.line (rules.list_refuses cred node (record { read = read; write = write; exec = false })) (rules.list_rule node false) ∷ []) h in
+    let both =
+    first_two read write (dom subject.active node.element) (dom node.element subject.active)
+    (rules.line (rules.list_refuses cred node (record { read = read; write = write; exec = false })) (rules.list_rule node false) ∷ []) h in
     record { reads = both.0; writes = both.1 }
 
 abbrev attrs_of : Option NodeRecord → Option Attrs
@@ -79,12 +84,14 @@ record Allowed (v : View) (attrs : Option Attrs) (read write : Bool) : Type 0 wh
   reads : read ≡ true → reads_attrs v attrs ≡ true
   writes : write ≡ true → writes_attrs v attrs ≡ true
 
-allowed_at : (v : View) (o : Option NodeRecord) (read write : Bool) → access_rule v.caller.cred v.caller.label o read write false ≡ None → Allowed v (attrs_of o) read write
+allowed_at : (v : View) (o : Option NodeRecord) (read write : Bool) → access_rule v.caller.cred v.caller.label o read write false ≡ None
+    → Allowed v (attrs_of o) read write
 allowed_at v None read write h = record { reads = λ _. refl; writes = λ _. refl }
 allowed_at v (Some n) read write h = let both = allows v.caller.cred v.caller.label n.attrs read write h in record { reads = both.reads; writes = both.writes }
 
 -- a file is opened well where, in the view, its node has attributes that were allowed
-well : (w : View) (f : OpenFile) (attrs : Option Attrs) (read write : Bool) → attrs_of (node_at w f.file.path) ≡ attrs → f.file.readable ≡ read → f.file.writable ≡ write → Allowed w attrs read write → IsOpenedWell w f
+well : (w : View) (f : OpenFile) (attrs : Option Attrs) (read write : Bool) → attrs_of (node_at w f.file.path) ≡ attrs → f.file.readable ≡ read
+    → f.file.writable ≡ write → Allowed w attrs read write → IsOpenedWell w f
 well w f attrs read write same readable writable allowed = record {
   reads = λ is. reads_by_attrs w (node_at w f.file.path) ∙ ap (reads_attrs w) same ∙ allowed.reads (sym readable ∙ is);
   writes = λ is. writes_by_attrs w (node_at w f.file.path) ∙ ap (writes_attrs w) same ∙ allowed.writes (sym writable ∙ is);
@@ -96,9 +103,11 @@ tied_to_itself path = ap is_eq (tied_itself (lists_total nat_list_cmp_total) pat
 -- what was put at a path is there
 placed_here : (nodes : Nodes) (path : List (List ℕ)) (now : Option NodeRecord) → at_path (with_node_at nodes path now) path ≡ now
 unfolding at_path with_node_at
-placed_here nodes path (Some node) = find-put path_cmp (lists_total nat_list_cmp_total) path path node nodes ∙ ap (λ b. cond b (Some node) (find path_cmp path nodes)) (tied_to_itself path)
+placed_here nodes path (Some node) =
+    find-put path_cmp (lists_total nat_list_cmp_total) path path node nodes ∙ ap (λ b. cond b (Some node) (find path_cmp path nodes)) (tied_to_itself path)
 placed_here nodes path None =
-    find-where_key path_cmp (λ p. not (eq_by_cmp path_cmp path p)) path (λ p tied. ap (λ r. not (is_eq r)) (sym (alike_right (lists_total nat_list_cmp_total) path p path tied))) nodes
+    find-where_key path_cmp (λ p. not (eq_by_cmp path_cmp path p)) path
+    (λ p tied. ap (λ r. not (is_eq r)) (sym (alike_right (lists_total nat_list_cmp_total) path p path tied))) nodes
     ∙ ap (λ b. cond (not b) (find path_cmp path nodes) None) (tied_to_itself path)
 
 no_contents_attrs : (o : Option NodeRecord) → attrs_of (option_map no_contents o) ≡ attrs_of o
@@ -106,11 +115,14 @@ no_contents_attrs None = refl
 no_contents_attrs (Some n) = refl
 
 -- the attributes at a place after an open of what is there
-found_attrs : (v : View) (place : List (List ℕ)) (cut : Bool) (i : ℕ) (file : File) → attrs_of (node_at (change_all v (cond cut (at place (option_map no_contents (node_at v place)) ∷ []) [] ++ made i file ∷ [])) place) ≡ attrs_of (node_at v place)
+found_attrs : (v : View) (place : List (List ℕ)) (cut : Bool) (i : ℕ) (file : File)
+    → attrs_of (node_at (change_all v (cond cut (at place (option_map no_contents (node_at v place)) ∷ []) [] ++ made i file ∷ [])) place)
+    ≡ attrs_of (node_at v place)
 found_attrs v place true i file = ap attrs_of (placed_here v.tree place (option_map no_contents (node_at v place))) ∙ no_contents_attrs (node_at v place)
 found_attrs v place false i file = refl
 
-found_caller : (v : View) (place : List (List ℕ)) (cut : Bool) (what : Option NodeRecord) (i : ℕ) (file : File) → (change_all v (cond cut (at place what ∷ []) [] ++ made i file ∷ [])).caller ≡ v.caller
+found_caller : (v : View) (place : List (List ℕ)) (cut : Bool) (what : Option NodeRecord) (i : ℕ) (file : File)
+    → (change_all v (cond cut (at place what ∷ []) [] ++ made i file ∷ [])).caller ≡ v.caller
 found_caller v place true what i file = refl
 found_caller v place false what i file = refl
 
@@ -123,12 +135,18 @@ same_caller v w (Some a) read write same h = record {
 }
 
 -- a node that the caller makes has the caller's active element
-made_allowed : (v : View) (dir : Option NodeRecord) (mode : ℕ) (read write : Bool) → Allowed v (attrs_of (new_in_dir v.caller.cred v.caller.label v.caller.umask dir kind.File mode)) read write
+made_allowed : (v : View) (dir : Option NodeRecord) (mode : ℕ) (read write : Bool)
+    → Allowed v (attrs_of (new_in_dir v.caller.cred v.caller.label v.caller.umask dir kind.File mode)) read write
 made_allowed v None mode read write = record { reads = λ _. refl; writes = λ _. refl }
 made_allowed v (Some d) mode read write = record { reads = λ _. dom_refl v.caller.label.active; writes = λ _. dom_refl v.caller.label.active }
 
 -- an open of what is there of which no line holds: nothing denied the access
-found_allowed : (exists dir own other full : Bool) (o : Option Rule) → first (line exists (refused Exists) ∷ line dir (refused IsDir) ∷ denied_by o ∷ line own (refused NoTty) ∷ line other (refused NotReady) ∷ line full (refused FdRoom) ∷ []) ≡ None → o ≡ None
+found_allowed : (exists dir own other full : Bool) (o : Option Rule)
+    → first
+    (line exists (refused Exists) ∷ line dir (refused IsDir) ∷ denied_by o ∷ line own (refused NoTty) ∷ line other (refused NotReady) ∷ line full
+    (refused FdRoom) ∷ [])
+    ≡ None
+    → o ≡ None
 found_allowed true dir own other full o h = cc
 found_allowed false true own other full o h = cc
 found_allowed false false own other full (Some r) h = cc
@@ -153,24 +171,29 @@ AllMade G (became caller ∷ es) = AllMade G es
 abbrev pub MadeWell : View → List Effect → Type 0
 MadeWell v es = AllMade (λ file. IsOpenedWell (change_all v es) (opened file)) es
 
-alone : (v : View) (cut : Bool) (place : List (List ℕ)) (what : Option NodeRecord) (i : ℕ) (file : File) → let es = cond cut (at place what ∷ []) [] ++ made i file ∷ [] in IsOpenedWell (change_all v es) (opened file) → MadeWell v es
+alone : (v : View) (cut : Bool) (place : List (List ℕ)) (what : Option NodeRecord) (i : ℕ) (file : File)
+    → let es = cond cut (at place what ∷ []) [] ++ made i file ∷ [] in IsOpenedWell (change_all v es) (opened file) → MadeWell v es
 alone v true place what i file h = (h, tt)
 alone v false place what i file h = (h, tt)
 
-well_found : (v : View) (access : Access) (flags : OpenFlags) (mode : ℕ) (place : List (List ℕ)) → first (open_at v access flags mode (found place)).lines ≡ None → MadeWell v (open_at v access flags mode (found place)).effects
+well_found : (v : View) (access : Access) (flags : OpenFlags) (mode : ℕ) (place : List (List ℕ))
+    → first (open_at v access flags mode (found place)).lines ≡ None → MadeWell v (open_at v access flags mode (found place)).effects
 well_found v access flags mode place none =
     let node = node_at v place in
     let i = unwrap_or (lowest_free v) 0 in
     let file = opened_for place (tty_of node) access flags in
     let cut = flags.truncate && is_plain_file node in
     let w = change_all v (open_at v access flags mode (found place)).effects in
-    let free = found_allowed (flags.create && flags.exclusive) (is_dir_record node) (is_own_tty node) (is_other_tty (tty_of node)) (is_none (lowest_free v)) (access_rule v.caller.cred v.caller.label node (can_read access) (can_write access) false) none in
+    let free =
+    found_allowed (flags.create && flags.exclusive) (is_dir_record node) (is_own_tty node) (is_other_tty (tty_of node)) (is_none (lowest_free v))
+    (access_rule v.caller.cred v.caller.label node (can_read access) (can_write access) false) none in
     let allowed = allowed_at v node (can_read access) (can_write access) free in
     alone v cut place (option_map no_contents node) i file
     (well w (opened file) (attrs_of node) (can_read access) (can_write access) (found_attrs v place cut i file) refl refl
     (same_caller v w (attrs_of node) (can_read access) (can_write access) (found_caller v place cut (option_map no_contents node) i file) allowed))
 
-well_absent : (v : View) (access : Access) (flags : OpenFlags) (mode : ℕ) (dir : List (List ℕ)) (name : List ℕ) → MadeWell v (open_at v access flags mode (absent dir name)).effects
+well_absent : (v : View) (access : Access) (flags : OpenFlags) (mode : ℕ) (dir : List (List ℕ)) (name : List ℕ)
+    → MadeWell v (open_at v access flags mode (absent dir name)).effects
 well_absent v access flags mode dir name =
     let node = node_at v dir in
     let place = dir ++ name ∷ [] in
@@ -182,7 +205,8 @@ well_absent v access flags mode dir name =
       tt,
     )
 
-well_at : (v : View) (access : Access) (flags : OpenFlags) (mode : ℕ) (end : WalkEnd) → first (open_at v access flags mode end).lines ≡ None → MadeWell v (open_at v access flags mode end).effects
+well_at : (v : View) (access : Access) (flags : OpenFlags) (mode : ℕ) (end : WalkEnd) → first (open_at v access flags mode end).lines ≡ None
+    → MadeWell v (open_at v access flags mode end).effects
 well_at v access flags mode (found place) none = well_found v access flags mode place none
 well_at v access flags mode (absent dir name) none = well_absent v access flags mode dir name
 well_at v access flags mode missing none = tt
@@ -191,7 +215,8 @@ well_at v access flags mode name_long none = tt
 well_at v access flags mode path_long none = tt
 
 -- lines in front that do not hold leave it to those behind
-behind_none : (left clash : Bool) (path : Option Rule) (ls : List (Option Outcome)) → first (line left (early gone) ∷ line clash (refused Flags) ∷ denied_by path ∷ ls) ≡ None → first ls ≡ None
+behind_none : (left clash : Bool) (path : Option Rule) (ls : List (Option Outcome))
+    → first (line left (early gone) ∷ line clash (refused Flags) ∷ denied_by path ∷ ls) ≡ None → first ls ≡ None
 behind_none true clash path ls h = cc
 behind_none false true path ls h = cc
 behind_none false false (Some rule) ls h = cc
@@ -249,13 +274,18 @@ mkdir_opens v mode not_dir = refl
 mkdir_opens v mode name_long = refl
 mkdir_opens v mode path_long = refl
 
-well_open : (v : View) (slot : ℕ) (path : List ℕ) (access : Access) (flags : OpenFlags) (mode : ℕ) → WellRow v (row v (event.Call slot (call.Open path access flags mode)))
+well_open : (v : View) (slot : ℕ) (path : List ℕ) (access : Access) (flags : OpenFlags) (mode : ℕ)
+    → WellRow v (row v (event.Call slot (call.Open path access flags mode)))
 well_open v slot path access flags mode none =
-    well_at v access flags mode (end_of v path) (behind_none (has_no_process slot) (flags_clash access flags) (path_rule (at_path v.tree) v.caller.cred v.caller.label v.caller.directory path) (open_at v access flags mode (end_of v path)).lines none)
+    well_at v access flags mode (end_of v path)
+    (behind_none (has_no_process slot) (flags_clash access flags) (path_rule (at_path v.tree) v.caller.cred v.caller.label v.caller.directory path)
+    (open_at v access flags mode (end_of v path)).lines none)
 
 well_call : (v : View) (slot : ℕ) (c : Call) → WellRow v (row v (event.Call slot c))
 well_call v slot (call.Open path access flags mode) = well_open v slot path access flags mode
-well_call v slot (call.Close fd) = plain_row v (row v (event.Call slot (call.Close fd))) (elim (is_last_live v fd) as (λ b. opens_none (dropped fd ∷ cond b (emptied ∷ []) []) ≡ true) [ true ↦ refl | false ↦ refl ])
+well_call v slot (call.Close fd) =
+    plain_row v (row v (event.Call slot (call.Close fd)))
+    (elim (is_last_live v fd) as (λ b. opens_none (dropped fd ∷ cond b (emptied ∷ []) []) ≡ true) [ true ↦ refl | false ↦ refl ])
 well_call v slot (call.Read fd max) = plain_row v (row v (event.Call slot (call.Read fd max))) (read_opens v fd max (file_at v fd))
 well_call v slot (call.Write fd bs) = plain_row v (row v (event.Call slot (call.Write fd bs))) (write_opens v fd bs (file_at v fd))
 well_call v slot (call.Chdir path) = plain_row v (row v (event.Call slot (call.Chdir path))) (refl)

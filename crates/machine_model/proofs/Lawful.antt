@@ -42,7 +42,8 @@ refused_first (Some (early given)) g rule h = absurd (answered_plain given rule 
 refuses : (s : State) (p : ℕ) (e : Event) → Refuses s p e
 refuses s p e = record {
   named = λ rule h. refused_first (first (row (view s) e).lines) (row (view s) e).answer rule h;
-  unchanged = λ rule h. ap (λ o. tag_all s p (done_by o (row (view s) e).effects)) (refused_first (first (row (view s) e).lines) (row (view s) e).answer rule h);
+  unchanged =
+      λ rule h. ap (λ o. tag_all s p (done_by o (row (view s) e).effects)) (refused_first (first (row (view s) e).lines) (row (view s) e).answer rule h);
 }
 
 get_or-map : {X Y : Type 0} (f : Option X → Option Y) (xs : List (Option X)) (i : ℕ) → f None ≡ None → get_or (map f xs) i None ≡ f (get_or xs i None)
@@ -68,13 +69,18 @@ record Stops (Stopped : Decision → Type 0) (found : Option Outcome) : Type 0 w
   answer : (g : Given) → Stopped (decided (Some outcome) g)
 
 -- the lines of a read of a dead file, by what their conditions are
-read_stops : (left big unreadable : Bool) (more : List (Option Outcome)) → Stops IsDeadRead (first (line left (early gone) ∷ line big (refused Size) ∷ line false (refused BadFd) ∷ line unreadable (refused FdMode) ∷ line true (early (bytes [])) ∷ more))
+read_stops : (left big unreadable : Bool) (more : List (Option Outcome))
+    → Stops IsDeadRead
+    (first
+    (line left (early gone) ∷ line big (refused Size) ∷ line false (refused BadFd) ∷ line unreadable (refused FdMode) ∷ line true (early (bytes [])) ∷
+    more))
 read_stops true big unreadable more = record { outcome = early gone; is = refl; answer = λ g. tt }
 read_stops false true unreadable more = record { outcome = refused Size; is = refl; answer = λ g. inl refl }
 read_stops false false true more = record { outcome = refused FdMode; is = refl; answer = λ g. inr refl }
 read_stops false false false more = record { outcome = early (bytes []); is = refl; answer = λ g. refl }
 
-write_stops : (left unwritable : Bool) (more : List (Option Outcome)) → Stops IsDeadWrite (first (line left (early gone) ∷ line false (refused BadFd) ∷ line unwritable (refused FdMode) ∷ line true (refused Dead) ∷ more))
+write_stops : (left unwritable : Bool) (more : List (Option Outcome))
+    → Stops IsDeadWrite (first (line left (early gone) ∷ line false (refused BadFd) ∷ line unwritable (refused FdMode) ∷ line true (refused Dead) ∷ more))
 write_stops true unwritable more = record { outcome = early gone; is = refl; answer = λ g. tt }
 write_stops false true more = record { outcome = refused FdMode; is = refl; answer = λ g. inr refl }
 write_stops false false more = record { outcome = refused Dead; is = refl; answer = λ g. inl refl }
@@ -126,7 +132,11 @@ denies_read s n slot fd max h dead =
     let stops = read_stops (has_no_process slot) (ltb 512 max) (not f.file.readable) rest in
     let lines : first (row v e).lines ≡ Some stops.outcome =
     ap (λ file. first (read_lines v slot fd max file)) here
-    ∙ ap (λ b. first (line (has_no_process slot) (early gone) ∷ line (ltb 512 max) (refused Size) ∷ line false (refused BadFd) ∷ line (not f.file.readable) (refused FdMode) ∷ line b (early (bytes [])) ∷ rest)) found.dead
+    ∙ ap
+    (λ b. first
+    (line (has_no_process slot) (early gone) ∷ line (ltb 512 max) (refused Size) ∷ line false (refused BadFd) ∷ line (not f.file.readable)
+    (refused FdMode) ∷ line b (early (bytes [])) ∷ rest))
+    found.dead
     ∙ stops.is in
     let answer : IsDeadRead (step s (n + 1) e).1 = subst (λ o. IsDeadRead (decided o (row v e).answer)) (sym lines) (stops.answer (row v e).answer) in
     record {
@@ -135,18 +145,23 @@ denies_read s n slot fd max h dead =
       answer = answer;
     }
 
-denies_write : (s : State) (n slot fd : ℕ) (bs : List ℕ) → Within n s → uses_dead s fd ≡ true → Denies s (n + 1) (event.Call slot (call.Write fd bs)) (writes fd)
+denies_write : (s : State) (n slot fd : ℕ) (bs : List ℕ) → Within n s → uses_dead s fd ≡ true
+    → Denies s (n + 1) (event.Call slot (call.Write fd bs)) (writes fd)
 denies_write s n slot fd bs h dead =
     let e = event.Call slot (call.Write fd bs) in
     let v = view s in
     let found = dead_file (look_at s (get_or s.descriptors fd None)) dead in
     let here : file_at v fd ≡ Some found.its = seen_file s fd ∙ found.is in
     let f = found.its in
-    let rest : List (Option Outcome) = line (may_not_write v f) (refused LabelWrite) ∷ line (eqb (length bs) 0) (early (number 0)) ∷ (write_at v fd bs (Some f)).lines in
+    let rest : List (Option Outcome) =
+    line (may_not_write v f) (refused LabelWrite) ∷ line (eqb (length bs) 0) (early (number 0)) ∷ (write_at v fd bs (Some f)).lines in
     let stops = write_stops (has_no_process slot) (not f.file.writable) rest in
     let lines : first (row v e).lines ≡ Some stops.outcome =
     ap (λ file. first (write_lines v slot fd bs file)) here
-    ∙ ap (λ b. first (line (has_no_process slot) (early gone) ∷ line false (refused BadFd) ∷ line (not f.file.writable) (refused FdMode) ∷ line b (refused Dead) ∷ rest)) found.dead
+    ∙ ap
+    (λ b. first
+    (line (has_no_process slot) (early gone) ∷ line false (refused BadFd) ∷ line (not f.file.writable) (refused FdMode) ∷ line b (refused Dead) ∷ rest))
+    found.dead
     ∙ stops.is in
     let same : (step s (n + 1) e).0 ≡ s = ap (λ o. tag_all s (n + 1) (done_by o (row v e).effects)) lines in
     record {
@@ -211,76 +226,137 @@ revokes s n (event.Carrier tty up) h = tt
 revokes s n (event.Ended tty) h = tt
 
 -- a read that a label denies answers no bytes
-unread : (left big unreadable : Bool) (more : List (Option Outcome)) (g : Given) (bs : List ℕ) → decided (first (line left (early gone) ∷ line big (refused Size) ∷ line false (refused BadFd) ∷ line unreadable (refused FdMode) ∷ line false (early (bytes [])) ∷ line true (refused LabelRead) ∷ more)) g ≡ Answer (Bytes bs) → ⊥
+unread : (left big unreadable : Bool) (more : List (Option Outcome)) (g : Given) (bs : List ℕ)
+    → decided
+    (first
+    (line left (early gone) ∷ line big (refused Size) ∷ line false (refused BadFd) ∷ line unreadable (refused FdMode) ∷ line false (early (bytes []))
+    ∷ line true (refused LabelRead) ∷ more))
+    g
+    ≡ Answer (Bytes bs)
+    → ⊥
 unread true big unreadable more g bs h = cc
 unread false true unreadable more g bs h = cc
 unread false false true more g bs h = cc
 unread false false false more g bs h = cc
 
-unwritten : (left unwritable : Bool) (more : List (Option Outcome)) (g : Given) (n : ℕ) → decided (first (line left (early gone) ∷ line false (refused BadFd) ∷ line unwritable (refused FdMode) ∷ line false (refused Dead) ∷ line true (refused LabelWrite) ∷ more)) g ≡ Answer (Num n) → ⊥
+unwritten : (left unwritable : Bool) (more : List (Option Outcome)) (g : Given) (n : ℕ)
+    → decided
+    (first
+    (line left (early gone) ∷ line false (refused BadFd) ∷ line unwritable (refused FdMode) ∷ line false (refused Dead) ∷ line true
+    (refused LabelWrite) ∷ more))
+    g
+    ≡ Answer (Num n)
+    → ⊥
 unwritten true unwritable more g n h = cc
 unwritten false true more g n h = cc
 unwritten false false more g n h = cc
 
-rechecks_read : (s : State) (p slot fd max : ℕ) (f : OpenFile) (bs : List ℕ) → s.recheck ≡ true → file_at (view s) fd ≡ Some f → f.dead ≡ false → (step s p (event.Call slot (call.Read fd max))).1 ≡ Answer (Bytes bs) → dominates_node (view s) (node_at (view s) f.file.path) ≡ true
+rechecks_read : (s : State) (p slot fd max : ℕ) (f : OpenFile) (bs : List ℕ) → s.recheck ≡ true → file_at (view s) fd ≡ Some f → f.dead ≡ false
+    → (step s p (event.Call slot (call.Read fd max))).1 ≡ Answer (Bytes bs) → dominates_node (view s) (node_at (view s) f.file.path) ≡ true
 rechecks_read s p slot fd max f bs on here live answer =
     let v = view s in
     let e = event.Call slot (call.Read fd max) in
     let rest : List (Option Outcome) = line (eqb max 0) (early (bytes [])) ∷ (read_at v fd max (Some f)).lines in
-    let lines : first (row v e).lines ≡ first (line (has_no_process slot) (early gone) ∷ line (ltb 512 max) (refused Size) ∷ line false (refused BadFd) ∷ line (not f.file.readable) (refused FdMode) ∷ line false (early (bytes [])) ∷ line (may_not_read v f) (refused LabelRead) ∷ rest) =
+    let lines : first (row v e).lines
+    ≡ first
+    (line (has_no_process slot) (early gone) ∷ line (ltb 512 max) (refused Size) ∷ line false (refused BadFd) ∷ line (not f.file.readable)
+    (refused FdMode) ∷ line false (early (bytes [])) ∷ line (may_not_read v f) (refused LabelRead) ∷ rest)
+    =
     ap (λ file. first (read_lines v slot fd max file)) here
-    ∙ ap (λ b. first (line (has_no_process slot) (early gone) ∷ line (ltb 512 max) (refused Size) ∷ line false (refused BadFd) ∷ line (not f.file.readable) (refused FdMode) ∷ line b (early (bytes [])) ∷ line (may_not_read v f) (refused LabelRead) ∷ rest)) live in
+    ∙ ap
+    (λ b. first
+    (line (has_no_process slot) (early gone) ∷ line (ltb 512 max) (refused Size) ∷ line false (refused BadFd) ∷ line (not f.file.readable)
+    (refused FdMode) ∷ line b (early (bytes [])) ∷ line (may_not_read v f) (refused LabelRead) ∷ rest))
+    live in
     elim (dominates_node v (node_at v f.file.path)) as (λ d. dominates_node v (node_at v f.file.path) ≡ d → d ≡ true) [
       | true ↦ λ is. refl
       | false ↦ λ is. absurd (
           let denied : may_not_read v f ≡ true = rw (on, is) refl in
           unread (has_no_process slot) (ltb 512 max) (not f.file.readable) rest (row v e).answer bs
-          (ap (λ o. decided o (row v e).answer) (sym (lines ∙ ap (λ b. first (line (has_no_process slot) (early gone) ∷ line (ltb 512 max) (refused Size) ∷ line false (refused BadFd) ∷ line (not f.file.readable) (refused FdMode) ∷ line false (early (bytes [])) ∷ line b (refused LabelRead) ∷ rest)) denied)) ∙ answer))
+          (ap (λ o. decided o (row v e).answer)
+          (sym
+          (lines
+          ∙ ap
+          (λ b. first
+          (line (has_no_process slot) (early gone) ∷ line (ltb 512 max) (refused Size) ∷ line false (refused BadFd) ∷ line
+          (not f.file.readable) (refused FdMode) ∷ line false (early (bytes [])) ∷ line b (refused LabelRead) ∷ rest))
+          denied))
+          ∙ answer))
     ] refl
 
-rechecks_write : (s : State) (p slot fd : ℕ) (bs : List ℕ) (f : OpenFile) (n : ℕ) → s.recheck ≡ true → file_at (view s) fd ≡ Some f → f.dead ≡ false → (step s p (event.Call slot (call.Write fd bs))).1 ≡ Answer (Num n) → node_dominates (view s) (node_at (view s) f.file.path) ≡ true
+rechecks_write : (s : State) (p slot fd : ℕ) (bs : List ℕ) (f : OpenFile) (n : ℕ) → s.recheck ≡ true → file_at (view s) fd ≡ Some f → f.dead ≡ false
+    → (step s p (event.Call slot (call.Write fd bs))).1 ≡ Answer (Num n) → node_dominates (view s) (node_at (view s) f.file.path) ≡ true
 rechecks_write s p slot fd bs f n on here live answer =
     let v = view s in
     let e = event.Call slot (call.Write fd bs) in
     let rest : List (Option Outcome) = line (eqb (length bs) 0) (early (number 0)) ∷ (write_at v fd bs (Some f)).lines in
-    let lines : first (row v e).lines ≡ first (line (has_no_process slot) (early gone) ∷ line false (refused BadFd) ∷ line (not f.file.writable) (refused FdMode) ∷ line false (refused Dead) ∷ line (may_not_write v f) (refused LabelWrite) ∷ rest) =
+    let lines : first (row v e).lines
+    ≡ first
+    (line (has_no_process slot) (early gone) ∷ line false (refused BadFd) ∷ line (not f.file.writable) (refused FdMode) ∷ line false (refused Dead) ∷
+    line (may_not_write v f) (refused LabelWrite) ∷ rest)
+    =
     ap (λ file. first (write_lines v slot fd bs file)) here
-    ∙ ap (λ b. first (line (has_no_process slot) (early gone) ∷ line false (refused BadFd) ∷ line (not f.file.writable) (refused FdMode) ∷ line b (refused Dead) ∷ line (may_not_write v f) (refused LabelWrite) ∷ rest)) live in
+    ∙ ap
+    (λ b. first
+    (line (has_no_process slot) (early gone) ∷ line false (refused BadFd) ∷ line (not f.file.writable) (refused FdMode) ∷ line b (refused Dead) ∷ line
+    (may_not_write v f) (refused LabelWrite) ∷ rest))
+    live in
     elim (node_dominates v (node_at v f.file.path)) as (λ d. node_dominates v (node_at v f.file.path) ≡ d → d ≡ true) [
       | true ↦ λ is. refl
       | false ↦ λ is. absurd (
           let denied : may_not_write v f ≡ true = rw (on, is) refl in
           unwritten (has_no_process slot) (not f.file.writable) rest (row v e).answer n
-          (ap (λ o. decided o (row v e).answer) (sym (lines ∙ ap (λ b. first (line (has_no_process slot) (early gone) ∷ line false (refused BadFd) ∷ line (not f.file.writable) (refused FdMode) ∷ line false (refused Dead) ∷ line b (refused LabelWrite) ∷ rest)) denied)) ∙ answer))
+          (ap (λ o. decided o (row v e).answer)
+          (sym
+          (lines
+          ∙ ap
+          (λ b. first
+          (line (has_no_process slot) (early gone) ∷ line false (refused BadFd) ∷ line (not f.file.writable) (refused FdMode) ∷ line false
+          (refused Dead) ∷ line b (refused LabelWrite) ∷ rest))
+          denied))
+          ∙ answer))
     ] refl
 
 -- a read through a file that may not be read answers no bytes
-no_mode : (left big : Bool) (more : List (Option Outcome)) (g : Given) (bs : List ℕ) → decided (first (line left (early gone) ∷ line big (refused Size) ∷ line false (refused BadFd) ∷ line true (refused FdMode) ∷ more)) g ≡ Answer (Bytes bs) → ⊥
+no_mode : (left big : Bool) (more : List (Option Outcome)) (g : Given) (bs : List ℕ)
+    → decided (first (line left (early gone) ∷ line big (refused Size) ∷ line false (refused BadFd) ∷ line true (refused FdMode) ∷ more)) g ≡ Answer (Bytes bs)
+    → ⊥
 no_mode true big more g bs h = cc
 no_mode false true more g bs h = cc
 no_mode false false more g bs h = cc
 
-no_write_mode : (left : Bool) (more : List (Option Outcome)) (g : Given) (n : ℕ) → decided (first (line left (early gone) ∷ line false (refused BadFd) ∷ line true (refused FdMode) ∷ more)) g ≡ Answer (Num n) → ⊥
+no_write_mode : (left : Bool) (more : List (Option Outcome)) (g : Given) (n : ℕ)
+    → decided (first (line left (early gone) ∷ line false (refused BadFd) ∷ line true (refused FdMode) ∷ more)) g ≡ Answer (Num n) → ⊥
 no_write_mode true more g n h = cc
 no_write_mode false more g n h = cc
 
-read_mode : (s : State) (p slot fd max : ℕ) (f : OpenFile) (bs : List ℕ) → file_at (view s) fd ≡ Some f → (step s p (event.Call slot (call.Read fd max))).1 ≡ Answer (Bytes bs) → f.file.readable ≡ true
+read_mode : (s : State) (p slot fd max : ℕ) (f : OpenFile) (bs : List ℕ) → file_at (view s) fd ≡ Some f
+    → (step s p (event.Call slot (call.Read fd max))).1 ≡ Answer (Bytes bs) → f.file.readable ≡ true
 read_mode s p slot fd max f bs here answer =
     let v = view s in
     let e = event.Call slot (call.Read fd max) in
-    let rest : List (Option Outcome) = line f.dead (early (bytes [])) ∷ line (may_not_read v f) (refused LabelRead) ∷ line (eqb max 0) (early (bytes [])) ∷ (read_at v fd max (Some f)).lines in
+    let rest : List (Option Outcome) =
+    line f.dead (early (bytes [])) ∷ line (may_not_read v f) (refused LabelRead) ∷ line (eqb max 0) (early (bytes []))
+    ∷ (read_at v fd max (Some f)).lines in
     elim f.file.readable as (λ r. f.file.readable ≡ r → r ≡ true) [
       | true ↦ λ is. refl
       | false ↦ λ is. absurd (no_mode (has_no_process slot) (ltb 512 max) rest (row v e).answer bs
           (ap (λ o. decided o (row v e).answer) (sym (ap (λ file. first (read_lines v slot fd max file)) here
-          ∙ ap (λ b. first (line (has_no_process slot) (early gone) ∷ line (ltb 512 max) (refused Size) ∷ line false (refused BadFd) ∷ line (not b) (refused FdMode) ∷ rest)) is)) ∙ answer))
+          ∙ ap
+          (λ b. first
+          (line (has_no_process slot) (early gone) ∷ line (ltb 512 max) (refused Size) ∷ line false (refused BadFd) ∷ line (not b) (refused FdMode) ∷
+          rest))
+          is)) ∙ answer))
     ] refl
 
-write_mode : (s : State) (p slot fd : ℕ) (bs : List ℕ) (f : OpenFile) (n : ℕ) → file_at (view s) fd ≡ Some f → (step s p (event.Call slot (call.Write fd bs))).1 ≡ Answer (Num n) → f.file.writable ≡ true
+write_mode : (s : State) (p slot fd : ℕ) (bs : List ℕ) (f : OpenFile) (n : ℕ) → file_at (view s) fd ≡ Some f
+    → (step s p (event.Call slot (call.Write fd bs))).1 ≡ Answer (Num n) → f.file.writable ≡ true
 write_mode s p slot fd bs f n here answer =
     let v = view s in
     let e = event.Call slot (call.Write fd bs) in
-    let rest : List (Option Outcome) = line f.dead (refused Dead) ∷ line (may_not_write v f) (refused LabelWrite) ∷ line (eqb (length bs) 0) (early (number 0)) ∷ (write_at v fd bs (Some f)).lines in
+    let rest : List (Option Outcome) =
+    line f.dead (refused Dead) ∷ line (may_not_write v f) (refused LabelWrite) ∷ line (eqb (length bs) 0) (early (number 0)) ∷
+    (write_at v fd bs (Some f)).lines in
     elim f.file.writable as (λ r. f.file.writable ≡ r → r ≡ true) [
       | true ↦ λ is. refl
       | false ↦ λ is. absurd (no_write_mode (has_no_process slot) rest (row v e).answer n
@@ -291,8 +367,10 @@ write_mode s p slot fd bs f n here answer =
 uses_labels : (s : State) (p slot : ℕ) (c : Call) → UsesLabels s p (event.Call slot c) (use_of c)
 uses_labels s p slot (call.Open path access flags mode) = tt
 uses_labels s p slot (call.Close fd) = tt
-uses_labels s p slot (call.Read fd max) = λ f bs here live answer. (read_mode s p slot fd max f bs here answer, λ on. rechecks_read s p slot fd max f bs on here live answer)
-uses_labels s p slot (call.Write fd bs) = λ f n here live answer. (write_mode s p slot fd bs f n here answer, λ on. rechecks_write s p slot fd bs f n on here live answer)
+uses_labels s p slot (call.Read fd max) =
+    λ f bs here live answer. (read_mode s p slot fd max f bs here answer, λ on. rechecks_read s p slot fd max f bs on here live answer)
+uses_labels s p slot (call.Write fd bs) =
+    λ f n here live answer. (write_mode s p slot fd bs f n here answer, λ on. rechecks_write s p slot fd bs f n on here live answer)
 uses_labels s p slot (call.Chdir path) = tt
 uses_labels s p slot (call.Mkdir path mode) = tt
 uses_labels s p slot (call.Rmdir path) = tt
@@ -344,7 +422,8 @@ labelled s n (event.Carrier tty up) h = tt
 labelled s n (event.Ended tty) h = tt
 
 -- what holds of each event of a state within its position holds throughout a run
-throughout : (P : State → ℕ → Event → Type 0) → ((s : State) (n : ℕ) (e : Event) → Within n s → P s (n + 1) e) → (es : List Event) (s : State) (n : ℕ) → Within n s → Throughout P s (n + 1) es
+throughout : (P : State → ℕ → Event → Type 0) → ((s : State) (n : ℕ) (e : Event) → Within n s → P s (n + 1) e) → (es : List Event) (s : State) (n : ℕ)
+    → Within n s → Throughout P s (n + 1) es
 throughout P holds [] s n h = tt
 throughout P holds (e ∷ es) s n h = (holds s n e h, throughout P holds es (step s (n + 1) e).0 (n + 1) (Within-step n s e h))
 

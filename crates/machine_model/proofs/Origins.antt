@@ -19,19 +19,22 @@ abbrev Every : (ℕ → File → Type 0) → State → Type 0
 Every G s = (name : ℕ) (f : File) → find name s.files ≡ Some f → G name f
 
 module _ (G : ℕ → File → Type 0) (keeps : (name offset : ℕ) (f : File) → G name f → G name (with_offset offset f)) where
-  after_moved : (name offset : ℕ) (found : Option File) (f : File) → ((f0 : File) → found ≡ Some f0 → G name f0) → option_map (with_offset offset) found ≡ Some f → G name f
+  after_moved : (name offset : ℕ) (found : Option File) (f : File) → ((f0 : File) → found ≡ Some f0 → G name f0)
+      → option_map (with_offset offset) found ≡ Some f → G name f
   after_moved name offset None f h is = cc
   after_moved name offset (Some f0) f h is =
       let same : with_offset offset f0 ≡ f = cc in
       subst (G name) same (keeps name offset f0 (h f0 refl))
 
-  every-moved : (s : State) (number offset : ℕ) (moved : Option ℕ) → Every G s → (name : ℕ) (f : File) → find name (moved_files moved offset s.files) ≡ Some f → G name f
+  every-moved : (s : State) (number offset : ℕ) (moved : Option ℕ) → Every G s → (name : ℕ) (f : File) → find name (moved_files moved offset s.files) ≡ Some f
+      → G name f
   every-moved s number offset None h name f is = h name f is
   every-moved s number offset (Some other) h name f is =
       elim (eqb name other) as (λ b. eqb name other ≡ b → G name f) [
         | true ↦ λ same.
             let one : name ≡ other = eqb-true name other same in
-            after_moved name offset (find name s.files) f (h name) (sym (find-moved name offset s.files) ∙ ap (λ o. find name (map (moved_file o offset) s.files)) one ∙ is)
+            after_moved name offset (find name s.files) f (h name)
+            (sym (find-moved name offset s.files) ∙ ap (λ o. find name (map (moved_file o offset) s.files)) one ∙ is)
         | false ↦ λ apart. h name f (sym (find-unmoved other name offset s.files apart) ∙ is)
       ] refl
 
@@ -103,7 +106,8 @@ first_moment : (says : Boot) (es : List Event) → Moment says es 0
 unfolding boot
 first_moment says es = record { within = Within-boot says; well = λ name f is. cc }
 
-made_then : (says : Boot) (es : List Event) (n : ℕ) (e : Event) → Within n (state_after says es n) → state_after says es (suc n) ≡ (step (state_after says es n) (1 + n) e).0 → AllMade (Well says es (1 + n)) (done (row (view (state_after says es n)) e))
+made_then : (says : Boot) (es : List Event) (n : ℕ) (e : Event) → Within n (state_after says es n)
+    → state_after says es (suc n) ≡ (step (state_after says es n) (1 + n) e).0 → AllMade (Well says es (1 + n)) (done (row (view (state_after says es n)) e))
 unfolding Well view_after
 made_then says es n e within is =
     let s = state_after says es n in
@@ -126,8 +130,12 @@ next_moment says es n m =
             well = subst (Every (Well says es)) (sym same) m.well;
           }
       | further e is ↦ record {
-        within = subst (λ k. Within k (state_after says es (suc n))) next_is (subst (Within (n + 1)) (sym (is ∙ ap (λ q. (step s q e).0) one)) (Within-step n s e m.within));
-        well = subst (Every (Well says es)) (sym is) (every-tag_all (Well says es) (moved_well says es) (done (row (view s) e)) s (1 + n) (made_then says es n e m.within is) m.well);
+        within =
+            subst (λ k. Within k (state_after says es (suc n))) next_is
+            (subst (Within (n + 1)) (sym (is ∙ ap (λ q. (step s q e).0) one)) (Within-step n s e m.within));
+        well =
+            subst (Every (Well says es)) (sym is)
+            (every-tag_all (Well says es) (moved_well says es) (done (row (view s) e)) s (1 + n) (made_then says es n e m.within is) m.well);
       }
     ]
 

@@ -12,7 +12,8 @@ use Rattle.machine_model.specs.Stands.{NamesWithin, IsUnused, AreApart, Within, 
 use Rattle.machine_model.proofs.Within.{NamesWithin-clear, apart-clear, apart-set, unused-next, is_plain, all_plain, is_orderly, orderly-event, Within-step}
 
 -- the files under the names so far do not see a file with a new name
-look-older : (s : State) (n : ℕ) (file : File) (ds : List (Option ℕ)) → NamesWithin n ds → map (look_at (record s { files = (n + 1, file) ∷ s.files })) ds ≡ map (look_at s) ds
+look-older : (s : State) (n : ℕ) (file : File) (ds : List (Option ℕ)) → NamesWithin n ds
+    → map (look_at (record s { files = (n + 1, file) ∷ s.files })) ds ≡ map (look_at s) ds
 look-older s n file [] h = refl
 look-older s n file (None ∷ ds) h = ap (λ rest. None ∷ rest) (look-older s n file ds h)
 look-older s n file (Some name ∷ ds) h =
@@ -26,12 +27,14 @@ look-newest s n file h =
     let after : s.line.revoked ≤ n + 1 = omega arith in
     rw (eq-eqb (n + 1) (n + 1) refl, le-ltb (n + 1) s.line.revoked after) refl
 
-killed-one : (line : Line) (p name : ℕ) (file : Option File) → name < p → option_map (seen_as (record line { revoked = p }) name) file ≡ option_map killed_file (option_map (seen_as line name) file)
+killed-one : (line : Line) (p name : ℕ) (file : Option File) → name < p
+    → option_map (seen_as (record line { revoked = p }) name) file ≡ option_map killed_file (option_map (seen_as line name) file)
 killed-one line p name None h = refl
 killed-one line p name (Some file) h = rw (lt-ltb name p h) refl
 
 -- each file so far is dead under a revoke that comes after it
-killed-all : (s : State) (n : ℕ) (ds : List (Option ℕ)) → NamesWithin n ds → map (look_at (record s { line = record (s.line) { revoked = n + 1 } })) ds ≡ map (option_map killed_file) (map (look_at s) ds)
+killed-all : (s : State) (n : ℕ) (ds : List (Option ℕ)) → NamesWithin n ds
+    → map (look_at (record s { line = record (s.line) { revoked = n + 1 } })) ds ≡ map (option_map killed_file) (map (look_at s) ds)
 killed-all s n [] h = refl
 killed-all s n (None ∷ ds) h = ap (λ rest. None ∷ rest) (killed-all s n ds h)
 killed-all s n (Some name ∷ ds) h =
@@ -47,7 +50,10 @@ bytes_of-tagged p (b ∷ bs) = ap (λ rest. b ∷ rest) (bytes_of-tagged p bs)
 pub find-moved : (name offset : ℕ) (fs : List (ℕ × File)) → find name (map (moved_file name offset) fs) ≡ option_map (with_offset offset) (find name fs)
 find-moved name offset [] = refl
 find-moved name offset (f ∷ fs) =
-    elim (eqb f.0 name) as (λ b. eqb f.0 name ≡ b → find name (cond b (f.0, with_offset offset f.1) f ∷ map (moved_file name offset) fs) ≡ option_map (with_offset offset) (cond b (Some f.1) (find name fs))) [
+    elim (eqb f.0 name) as
+    (λ b. eqb f.0 name ≡ b
+    → find name (cond b (f.0, with_offset offset f.1) f ∷ map (moved_file name offset) fs)
+    ≡ option_map (with_offset offset) (cond b (Some f.1) (find name fs))) [
       | true ↦ λ same. rw same refl
       | false ↦ λ other. rw other (find-moved name offset fs)
     ] refl
@@ -56,7 +62,9 @@ find-moved name offset (f ∷ fs) =
 pub find-unmoved : (name other offset : ℕ) (fs : List (ℕ × File)) → eqb other name ≡ false → find other (map (moved_file name offset) fs) ≡ find other fs
 find-unmoved name other offset [] apart = refl
 find-unmoved name other offset (f ∷ fs) apart =
-    elim (eqb f.0 name) as (λ b. eqb f.0 name ≡ b → find other (cond b (f.0, with_offset offset f.1) f ∷ map (moved_file name offset) fs) ≡ cond (eqb f.0 other) (Some f.1) (find other fs)) [
+    elim (eqb f.0 name) as
+    (λ b. eqb f.0 name ≡ b
+    → find other (cond b (f.0, with_offset offset f.1) f ∷ map (moved_file name offset) fs) ≡ cond (eqb f.0 other) (Some f.1) (find other fs)) [
       | true ↦ λ same. let not_it : eqb f.0 other ≡ false = grind arith in rw not_it (find-unmoved name other offset fs apart)
       | false ↦ λ _. ap (λ found. cond (eqb f.0 other) (Some f.1) found) (find-unmoved name other offset fs apart)
     ] refl
@@ -72,7 +80,8 @@ look-unmoved s name offset (Some other ∷ ds) h =
     ap (λ file. option_map (seen_as s.line other) file ∷ map (look_at (with_moved s name offset)) ds) (find-unmoved name other offset s.files h.0)
     ∙ ap (λ rest. look s other ∷ rest) (look-unmoved s name offset ds h.1)
 
-moved-one : (line : Line) (name offset : ℕ) (file : Option File) → option_map (seen_as line name) (option_map (with_offset offset) file) ≡ option_map (moved_to offset) (option_map (seen_as line name) file)
+moved-one : (line : Line) (name offset : ℕ) (file : Option File)
+    → option_map (seen_as line name) (option_map (with_offset offset) file) ≡ option_map (moved_to offset) (option_map (seen_as line name) file)
 moved-one line name offset None = refl
 moved-one line name offset (Some file) = refl
 
@@ -85,7 +94,8 @@ used-other name other (suc i) (None ∷ ds) h is = used-other name other i ds h 
 used-other name other (suc i) (Some first ∷ ds) h is = used-other name other i ds h.1 is
 
 -- the one descriptor of the file sees it
-look-moved : (s : State) (name offset i : ℕ) (ds : List (Option ℕ)) → AreApart ds → get_or ds i None ≡ Some name → map (look_at (with_moved s name offset)) ds ≡ set (map (look_at s) ds) i (option_map (moved_to offset) (look s name))
+look-moved : (s : State) (name offset i : ℕ) (ds : List (Option ℕ)) → AreApart ds → get_or ds i None ≡ Some name
+    → map (look_at (with_moved s name offset)) ds ≡ set (map (look_at s) ds) i (option_map (moved_to offset) (look s name))
 look-moved s name offset i [] apart is = cc
 look-moved s name offset zero (None ∷ ds) apart is = cc
 look-moved s name offset zero (Some first ∷ ds) apart is =
@@ -97,7 +107,8 @@ look-moved s name offset zero (Some first ∷ ds) apart is =
     ∙ ap (λ more. option_map (moved_to offset) (look s first) ∷ more) rest)
 look-moved s name offset (suc i) (None ∷ ds) apart is = ap (λ rest. None ∷ rest) (look-moved s name offset i ds apart is)
 look-moved s name offset (suc i) (Some first ∷ ds) apart is =
-    ap (λ file. option_map (seen_as s.line first) file ∷ map (look_at (with_moved s name offset)) ds) (find-unmoved name first offset s.files (used-other name first i ds apart.0 is))
+    ap (λ file. option_map (seen_as s.line first) file ∷ map (look_at (with_moved s name offset)) ds)
+    (find-unmoved name first offset s.files (used-other name first i ds apart.0 is))
     ∙ ap (λ rest. look s first ∷ rest) (look-moved s name offset i ds apart.1 is)
 
 set-same : {A : Type 0} (xs : List (Option A)) (i : ℕ) → get_or xs i None ≡ None → set xs i None ≡ xs
@@ -110,7 +121,9 @@ get-look s [] i = refl
 get-look s (d ∷ ds) zero = refl
 get-look s (d ∷ ds) (suc i) = get-look s ds i
 
-moved-descriptors : (s : State) (number offset : ℕ) (name : Option ℕ) → AreApart s.descriptors → get_or s.descriptors number None ≡ name → map (look_at (record s { files = moved_files name offset s.files })) s.descriptors ≡ set (map (look_at s) s.descriptors) number (option_map (moved_to offset) (look_at s name))
+moved-descriptors : (s : State) (number offset : ℕ) (name : Option ℕ) → AreApart s.descriptors → get_or s.descriptors number None ≡ name
+    → map (look_at (record s { files = moved_files name offset s.files })) s.descriptors
+    ≡ set (map (look_at s) s.descriptors) number (option_map (moved_to offset) (look_at s name))
 moved-descriptors s number offset None apart is = sym (set-same (map (look_at s) s.descriptors) number (get-look s s.descriptors number ∙ ap (look_at s) is))
 moved-descriptors s number offset (Some name) apart is = look-moved s name offset number s.descriptors apart is
 
@@ -121,7 +134,8 @@ view-moved s p number offset apart =
     ∙ ap (λ file. set (map (look_at s) s.descriptors) number (option_map (moved_to offset) file)) (sym (get-look s s.descriptors number)))
 
 -- one effect: the names so far are those of the first n events, and it is one of the next event
-view-tag : (s : State) (n : ℕ) (e : Effect) → NamesWithin n s.descriptors → AreApart s.descriptors → s.line.revoked ≤ n → view (tag s (n + 1) e) ≡ change (view s) e
+view-tag : (s : State) (n : ℕ) (e : Effect) → NamesWithin n s.descriptors → AreApart s.descriptors → s.line.revoked ≤ n
+    → view (tag s (n + 1) e) ≡ change (view s) e
 view-tag s n (made number file) names apart revoked =
     ap (λ ds. record (view s) { descriptors = ds })
     (map-set (look_at (record s { files = (n + 1, file) ∷ s.files })) s.descriptors number (Some (n + 1))
@@ -131,12 +145,15 @@ view-tag s n (dropped number) names apart revoked = ap (λ ds. record (view s) {
 view-tag s n (moved number offset) names apart revoked = view-moved s (n + 1) number offset apart
 view-tag s n killed names apart revoked = ap (λ ds. record (view s) { descriptors = ds }) (killed-all s n s.descriptors names)
 view-tag s n emptied names apart revoked = refl
-view-tag s n (came b) names apart revoked = ap (λ bs. record (view s) { line = record (view s).line { input = bs } }) (map-append (λ (c : Tagged). c.byte) s.line.input (tagged (n + 1) (b ∷ [])))
-view-tag s n (given k) names apart revoked = ap (λ bs. record (view s) { line = record (view s).line { input = bs } }) (sym (drop-map (λ (c : Tagged). c.byte) k s.line.input))
+view-tag s n (came b) names apart revoked =
+    ap (λ bs. record (view s) { line = record (view s).line { input = bs } }) (map-append (λ (c : Tagged). c.byte) s.line.input (tagged (n + 1) (b ∷ [])))
+view-tag s n (given k) names apart revoked =
+    ap (λ bs. record (view s) { line = record (view s).line { input = bs } }) (sym (drop-map (λ (c : Tagged). c.byte) k s.line.input))
 view-tag s n (put bs) names apart revoked =
     ap (λ bs. record (view s) { line = record (view s).line { output = bs } })
     (map-append (λ (c : Tagged). c.byte) s.line.output (tagged (n + 1) bs) ∙ ap (λ xs. bytes_of s.line.output ++ xs) (bytes_of-tagged (n + 1) bs))
-view-tag s n (sent k) names apart revoked = ap (λ bs. record (view s) { line = record (view s).line { output = bs } }) (sym (drop-map (λ (c : Tagged). c.byte) k s.line.output))
+view-tag s n (sent k) names apart revoked =
+    ap (λ bs. record (view s) { line = record (view s).line { output = bs } }) (sym (drop-map (λ (c : Tagged). c.byte) k s.line.output))
 view-tag s n (at path what) names apart revoked = refl
 view-tag s n (became caller) names apart revoked = refl
 
@@ -146,12 +163,15 @@ view-plain s p (dropped number) plain apart = ap (λ ds. record (view s) { descr
 view-plain s p (moved number offset) plain apart = view-moved s p number offset apart
 view-plain s p killed plain apart = cc
 view-plain s p emptied plain apart = refl
-view-plain s p (came b) plain apart = ap (λ bs. record (view s) { line = record (view s).line { input = bs } }) (map-append (λ (c : Tagged). c.byte) s.line.input (tagged p (b ∷ [])))
-view-plain s p (given k) plain apart = ap (λ bs. record (view s) { line = record (view s).line { input = bs } }) (sym (drop-map (λ (c : Tagged). c.byte) k s.line.input))
+view-plain s p (came b) plain apart =
+    ap (λ bs. record (view s) { line = record (view s).line { input = bs } }) (map-append (λ (c : Tagged). c.byte) s.line.input (tagged p (b ∷ [])))
+view-plain s p (given k) plain apart =
+    ap (λ bs. record (view s) { line = record (view s).line { input = bs } }) (sym (drop-map (λ (c : Tagged). c.byte) k s.line.input))
 view-plain s p (put bs) plain apart =
     ap (λ bs. record (view s) { line = record (view s).line { output = bs } })
     (map-append (λ (c : Tagged). c.byte) s.line.output (tagged p bs) ∙ ap (λ xs. bytes_of s.line.output ++ xs) (bytes_of-tagged p bs))
-view-plain s p (sent k) plain apart = ap (λ bs. record (view s) { line = record (view s).line { output = bs } }) (sym (drop-map (λ (c : Tagged). c.byte) k s.line.output))
+view-plain s p (sent k) plain apart =
+    ap (λ bs. record (view s) { line = record (view s).line { output = bs } }) (sym (drop-map (λ (c : Tagged). c.byte) k s.line.output))
 view-plain s p (at path what) plain apart = refl
 view-plain s p (became caller) plain apart = refl
 
@@ -215,12 +235,18 @@ view-all_plain (e ∷ es) s p plain apart =
       | false ↦ λ here rest. cc
     ] refl plain
 
-view-tag_all : (es : List Effect) (s : State) (n : ℕ) → is_orderly es ≡ true → NamesWithin n s.descriptors → AreApart s.descriptors → s.line.revoked ≤ n → view (tag_all s (n + 1) es) ≡ change_all (view s) es
+view-tag_all : (es : List Effect) (s : State) (n : ℕ) → is_orderly es ≡ true → NamesWithin n s.descriptors → AreApart s.descriptors → s.line.revoked ≤ n
+    → view (tag_all s (n + 1) es) ≡ change_all (view s) es
 view-tag_all [] s n orderly names apart revoked = refl
 view-tag_all (e ∷ es) s n orderly names apart revoked =
     elim (is_plain e) as (λ b. is_plain e ≡ b → cond b (is_orderly es) (all_plain es) ≡ true → view (tag_all s (n + 1) (e ∷ es)) ≡ change_all (view s) (e ∷ es)) [
-      | true ↦ λ here rest. view-tag_all es (tag s (n + 1) e) n rest (names-plain n s (n + 1) e here names) (apart-plain n s (n + 1) e here apart) (revoked-plain n s (n + 1) e here revoked) ∙ ap (λ v. change_all v es) (view-plain s (n + 1) e here apart)
-      | false ↦ λ here rest. view-all_plain es (tag s (n + 1) e) (n + 1) rest (apart-tag n s e names apart) ∙ ap (λ v. change_all v es) (view-tag s n e names apart revoked)
+      | true ↦
+          λ here rest. view-tag_all es (tag s (n + 1) e) n rest (names-plain n s (n + 1) e here names) (apart-plain n s (n + 1) e here apart)
+          (revoked-plain n s (n + 1) e here revoked)
+          ∙ ap (λ v. change_all v es) (view-plain s (n + 1) e here apart)
+      | false ↦
+          λ here rest. view-all_plain es (tag s (n + 1) e) (n + 1) rest (apart-tag n s e names apart)
+          ∙ ap (λ v. change_all v es) (view-tag s n e names apart revoked)
     ] refl orderly
 
 -- What calls see steps as the state does.
@@ -238,7 +264,8 @@ unfolding view_after answer_to
 does-seen old new d e h = (h.state, h.answer)
 
 -- A kernel that does as the row of an event says goes on standing for the machine's state.
-pub does-stands : (old new : View) (d : Decision) (e : Event) → Does old new d (row old e) → (n : ℕ) (s : State) → Stands old n s → Stands new (n + 1) (step s (n + 1) e).0 × (d ≡ (step s (n + 1) e).1)
+pub does-stands : (old new : View) (d : Decision) (e : Event) → Does old new d (row old e) → (n : ℕ) (s : State) → Stands old n s
+    → Stands new (n + 1) (step s (n + 1) e).0 × (d ≡ (step s (n + 1) e).1)
 unfolding answer_to
 does-stands old new d e h n s stands =
     let seen = does-seen old new d e h in (

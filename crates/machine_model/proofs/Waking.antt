@@ -17,7 +17,8 @@ some_taken (b ∷ bs) = grind (arith, nat_tests, length-take {A = ℕ})
 pub gives-take : (v : View) → gives_a_byte (answer_to v (event.Take 7 512)) ≡ (any_live v.descriptors && not (length v.line.output == 0))
 unfolding answer_to
 gives-take v =
-    elim (any_live v.descriptors) as (λ b. gives_a_byte (decided (first (line (not b) (early (taken [])) ∷ [])) (taken (take 512 v.line.output))) ≡ (b && not (length v.line.output == 0))) [
+    elim (any_live v.descriptors) as
+    (λ b. gives_a_byte (decided (first (line (not b) (early (taken [])) ∷ [])) (taken (take 512 v.line.output))) ≡ (b && not (length v.line.output == 0))) [
       | true ↦ ap not (some_taken v.line.output)
       | false ↦ refl
     ]

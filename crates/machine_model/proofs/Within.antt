@@ -198,15 +198,64 @@ unused-plain p s (became caller) plain u = u
 
 -- one effect of the next event, which may name a file only where no descriptor has its name yet
 Within-tag : (n p : ℕ) (s : State) (e : Effect) → p ≤ n → CanTag p e s.descriptors → Within n s → Within n (tag s p e)
-Within-tag n p s (made number file) l u h = record { files = (l, h.files); names = NamesWithin-set n number p s.descriptors l h.names; apart = apart-set number p s.descriptors u h.apart; input = h.input; output = h.output; revoked = h.revoked }
-Within-tag n p s (dropped number) l u h = record { files = h.files; names = NamesWithin-clear n number s.descriptors h.names; apart = apart-clear number s.descriptors h.apart; input = h.input; output = h.output; revoked = h.revoked }
-Within-tag n p s (moved number offset) l u h = record { files = FilesWithin-moved_files n (get_or s.descriptors number None) offset s.files h.files; names = h.names; apart = h.apart; input = h.input; output = h.output; revoked = h.revoked }
+Within-tag n p s (made number file) l u h = record {
+  files = (l, h.files);
+  names = NamesWithin-set n number p s.descriptors l h.names;
+  apart = apart-set number p s.descriptors u h.apart;
+  input = h.input;
+  output = h.output;
+  revoked = h.revoked;
+}
+Within-tag n p s (dropped number) l u h = record {
+  files = h.files;
+  names = NamesWithin-clear n number s.descriptors h.names;
+  apart = apart-clear number s.descriptors h.apart;
+  input = h.input;
+  output = h.output;
+  revoked = h.revoked;
+}
+Within-tag n p s (moved number offset) l u h = record {
+  files = FilesWithin-moved_files n (get_or s.descriptors number None) offset s.files h.files;
+  names = h.names;
+  apart = h.apart;
+  input = h.input;
+  output = h.output;
+  revoked = h.revoked;
+}
 Within-tag n p s killed l u h = record { files = h.files; names = h.names; apart = h.apart; input = h.input; output = h.output; revoked = l }
 Within-tag n p s emptied l u h = record { files = h.files; names = h.names; apart = h.apart; input = tt; output = tt; revoked = h.revoked }
-Within-tag n p s (came b) l u h = record { files = h.files; names = h.names; apart = h.apart; input = TagsWithin-append n s.line.input (tagged p (b ∷ [])) h.input (TagsWithin-tagged n p (b ∷ []) l); output = h.output; revoked = h.revoked }
-Within-tag n p s (given k) l u h = record { files = h.files; names = h.names; apart = h.apart; input = TagsWithin-drop n k s.line.input h.input; output = h.output; revoked = h.revoked }
-Within-tag n p s (put bs) l u h = record { files = h.files; names = h.names; apart = h.apart; input = h.input; output = TagsWithin-append n s.line.output (tagged p bs) h.output (TagsWithin-tagged n p bs l); revoked = h.revoked }
-Within-tag n p s (sent k) l u h = record { files = h.files; names = h.names; apart = h.apart; input = h.input; output = TagsWithin-drop n k s.line.output h.output; revoked = h.revoked }
+Within-tag n p s (came b) l u h = record {
+  files = h.files;
+  names = h.names;
+  apart = h.apart;
+  input = TagsWithin-append n s.line.input (tagged p (b ∷ [])) h.input (TagsWithin-tagged n p (b ∷ []) l);
+  output = h.output;
+  revoked = h.revoked;
+}
+Within-tag n p s (given k) l u h = record {
+  files = h.files;
+  names = h.names;
+  apart = h.apart;
+  input = TagsWithin-drop n k s.line.input h.input;
+  output = h.output;
+  revoked = h.revoked;
+}
+Within-tag n p s (put bs) l u h = record {
+  files = h.files;
+  names = h.names;
+  apart = h.apart;
+  input = h.input;
+  output = TagsWithin-append n s.line.output (tagged p bs) h.output (TagsWithin-tagged n p bs l);
+  revoked = h.revoked;
+}
+Within-tag n p s (sent k) l u h = record {
+  files = h.files;
+  names = h.names;
+  apart = h.apart;
+  input = h.input;
+  output = TagsWithin-drop n k s.line.output h.output;
+  revoked = h.revoked;
+}
 Within-tag n p s (at path what) l u h = record { files = h.files; names = h.names; apart = h.apart; input = h.input; output = h.output; revoked = h.revoked }
 Within-tag n p s (became caller) l u h = record { files = h.files; names = h.names; apart = h.apart; input = h.input; output = h.output; revoked = h.revoked }
 
@@ -231,7 +280,12 @@ orderly-done r h = elim (first r.lines) as (λ o. is_orderly (done_by o r.effect
 
 orderly-open : (v : View) (access : Access) (flags : OpenFlags) (mode : ℕ) (end : WalkEnd) → is_orderly (open_at v access flags mode end).effects ≡ true
 orderly-open v access flags mode (found place) =
-    elim (flags.truncate && is_plain_file (node_at v place)) as (λ b. is_orderly (cond b (at place (option_map no_contents (node_at v place)) ∷ []) [] ++ made (unwrap_or (lowest_free v) 0) (opened_for place (tty_of (node_at v place)) access flags) ∷ []) ≡ true) [ true ↦ refl | false ↦ refl ]
+    elim (flags.truncate && is_plain_file (node_at v place)) as
+    (λ b. is_orderly
+    (cond b (at place (option_map no_contents (node_at v place)) ∷ []) []
+    ++ made (unwrap_or (lowest_free v) 0) (opened_for place (tty_of (node_at v place)) access flags) ∷ [])
+    ≡ true)
+    [ true ↦ refl | false ↦ refl ]
 orderly-open v access flags mode (absent dir name) = refl
 orderly-open v access flags mode missing = refl
 orderly-open v access flags mode not_dir = refl
@@ -325,7 +379,8 @@ pub Within-step : (n : ℕ) (s : State) (e : Event) → Within n s → Within (n
 Within-step n s e h =
     let here : n + 1 ≤ n + 1 = omega arith in
     let more : n ≤ n + 1 = omega arith in
-    Within-tag_all (n + 1) (n + 1) s (done (row (view s) e)) here (orderly-event (view s) e) (unused-next n s.descriptors h.names) (Within-more n (n + 1) s more h)
+    Within-tag_all (n + 1) (n + 1) s (done (row (view s) e)) here (orderly-event (view s) e) (unused-next n s.descriptors h.names)
+    (Within-more n (n + 1) s more h)
 
 NamesWithin-replicate : (n k : ℕ) → NamesWithin n (replicate k None)
 NamesWithin-replicate n zero = tt

@@ -70,7 +70,8 @@ moved_to offset f = record f { file = with_offset offset f.file }
 abbrev pub change : View → Effect → View
 change v (made number file) = record v { descriptors = slice_set v.descriptors number (Some (opened file)) }
 change v (dropped number) = record v { descriptors = slice_set v.descriptors number None }
-change v (moved number offset) = record v { descriptors = slice_set v.descriptors number (option_map (moved_to offset) (slice_index_or v.descriptors number None)) }
+change v (moved number offset) =
+    record v { descriptors = slice_set v.descriptors number (option_map (moved_to offset) (slice_index_or v.descriptors number None)) }
 change v killed = record v { descriptors = map (option_map killed_file) v.descriptors }
 change v emptied = record v { line = record { input = []; output = [] } }
 change v (came b) = record v { line = record (v.line) { input = v.line.input ++ b ∷ [] } }

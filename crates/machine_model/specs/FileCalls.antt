@@ -121,7 +121,8 @@ open_at v access flags mode name_long = no_row
 open_at v access flags mode path_long = no_row
 
 abbrev pub open_row : View → List ℕ → Access → OpenFlags → ℕ → Row
-open_row v path access flags mode = behind (line (flags_clash access flags) (refused Flags) ∷ path_line v path ∷ []) (open_at v access flags mode (end_of v path))
+open_row v path access flags mode =
+    behind (line (flags_clash access flags) (refused Flags) ∷ path_line v path ∷ []) (open_at v access flags mode (end_of v path))
 
 -- the number is the line's last live file
 abbrev pub is_last_live : View → ℕ → Bool

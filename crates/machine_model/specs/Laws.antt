@@ -110,8 +110,12 @@ Revokes s p (event.Ended tty) = Unit {0}
 -- written. Where labels are looked at again, the caller's active element then dominates the element of what the file is of, and
 -- for a write the other way round (mac_mls(4)).
 abbrev pub UsesLabels : State → ℕ → Event → Use → Type 0
-UsesLabels s p e (reads fd) = (f : OpenFile) (bs : List ℕ) → file_at (view s) fd ≡ Some f → f.dead ≡ false → (step s p e).1 ≡ Answer (Bytes bs) → (f.file.readable ≡ true) × (s.recheck ≡ true → dominates_node (view s) (node_at (view s) f.file.path) ≡ true)
-UsesLabels s p e (writes fd) = (f : OpenFile) (n : ℕ) → file_at (view s) fd ≡ Some f → f.dead ≡ false → (step s p e).1 ≡ Answer (Num n) → (f.file.writable ≡ true) × (s.recheck ≡ true → node_dominates (view s) (node_at (view s) f.file.path) ≡ true)
+UsesLabels s p e (reads fd) =
+    (f : OpenFile) (bs : List ℕ) → file_at (view s) fd ≡ Some f → f.dead ≡ false → (step s p e).1 ≡ Answer (Bytes bs)
+    → (f.file.readable ≡ true) × (s.recheck ≡ true → dominates_node (view s) (node_at (view s) f.file.path) ≡ true)
+UsesLabels s p e (writes fd) =
+    (f : OpenFile) (n : ℕ) → file_at (view s) fd ≡ Some f → f.dead ≡ false → (step s p e).1 ≡ Answer (Num n)
+    → (f.file.writable ≡ true) × (s.recheck ≡ true → node_dominates (view s) (node_at (view s) f.file.path) ≡ true)
 UsesLabels s p e neither = Unit {0}
 
 -- The file of a number may be read only where the caller's active element dominates that of what it is of, and written only the

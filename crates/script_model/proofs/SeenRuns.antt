@@ -44,8 +44,15 @@ pub run_out-seen : (says : Boot) (asked : Asked) → run_out says asked ≡ out_
 unfolding out_seen
 run_out-seen says asked =
     let es = take TRAIL_EVENTS asked.events in
-    ap (λ bs. record { bytes = bs ++ (run_end TRAIL_EVENTS asked).bytes; status = (run_end TRAIL_EVENTS asked).status; stops = stops says es }) (answers_seen-from es (boot says) 0 (Within-boot says))
-    ∙ ap (λ fronts. record { bytes = answers_seen (view (boot says)) es ++ (run_end TRAIL_EVENTS asked).bytes; status = (run_end TRAIL_EVENTS asked).status; stops = fronts }) (stops_seen-from es (boot says) 0 (Within-boot says))
+    ap (λ bs. record { bytes = bs ++ (run_end TRAIL_EVENTS asked).bytes; status = (run_end TRAIL_EVENTS asked).status; stops = stops says es })
+    (answers_seen-from es (boot says) 0 (Within-boot says))
+    ∙ ap
+    (λ fronts. record {
+      bytes = answers_seen (view (boot says)) es ++ (run_end TRAIL_EVENTS asked).bytes;
+      status = (run_end TRAIL_EVENTS asked).status;
+      stops = fronts;
+    })
+    (stops_seen-from es (boot says) 0 (Within-boot says))
 
 -- with no event left to come the end is written
 pub out_seen-end : (v : View) (room : ℕ) (bad : Option ℕ) → out_seen v room (record { events = []; bad = bad }) ≡ text_end bad
@@ -61,8 +68,18 @@ unfolding out_seen answers_seen stops_seen
 out_seen-full v e es bad = rw (lt-ltb 0 (length (e ∷ es)) (omega arith)) refl
 
 -- an event for which there is room is answered, and the others come after it
-pub out_seen-event : (v : View) (room : ℕ) (e : Event) (es : List Event) (bad : Option ℕ) → out_seen v (suc room) (record { events = e ∷ es; bad = bad }) ≡ joined v e (answer_line e (answer_to v e) (wakes (view_after v e))) (out_seen (view_after v e) room (record { events = es; bad = bad }))
+pub out_seen-event : (v : View) (room : ℕ) (e : Event) (es : List Event) (bad : Option ℕ)
+    → out_seen v (suc room) (record { events = e ∷ es; bad = bad })
+    ≡ joined v e (answer_line e (answer_to v e) (wakes (view_after v e))) (out_seen (view_after v e) room (record { events = es; bad = bad }))
 unfolding out_seen answers_seen stops_seen
 out_seen-event v room e es bad =
-    rw (ltb-suc room (length es)) (ap (λ bs. record { bytes = bs; status = (run_end room (record { events = es; bad = bad })).status; stops = stop_before v e ++ map (λ front. answer_line e (answer_to v e) (wakes (view_after v e)) ++ front) (stops_seen (view_after v e) (take room es)) })
-    (append_assoc (answer_line e (answer_to v e) (wakes (view_after v e))) (answers_seen (view_after v e) (take room es)) (run_end room (record { events = es; bad = bad })).bytes))
+    rw (ltb-suc room (length es))
+    (ap
+    (λ bs. record {
+      bytes = bs;
+      status = (run_end room (record { events = es; bad = bad })).status;
+      stops = stop_before v e ++ map (λ front. answer_line e (answer_to v e) (wakes (view_after v e)) ++ front)
+          (stops_seen (view_after v e) (take room es));
+    })
+    (append_assoc (answer_line e (answer_to v e) (wakes (view_after v e))) (answers_seen (view_after v e) (take room es))
+    (run_end room (record { events = es; bad = bad })).bytes))

@@ -68,7 +68,8 @@ elements =
     []
 
 elements_are_read : map (λ row. printed element_text (element_of row.0)) elements ≡ map (λ row. row.1) elements
-unfolding digits dom after_word number_at compartments_within compartments_at grade_at body_at element_at range_at whole_element whole_parts whole_subject element_of subject_of numbers_in element_text subject_text
+unfolding digits dom after_word number_at compartments_within compartments_at grade_at body_at element_at range_at whole_element whole_parts whole_subject
+    element_of subject_of numbers_in element_text subject_text
 elements_are_read = refl
 
 -- texts of subjects, and what is printed of each or its fault
@@ -109,7 +110,8 @@ subjects =
     []
 
 subjects_are_read : map (λ row. printed subject_text (subject_of row.0)) subjects ≡ map (λ row. row.1) subjects
-unfolding digits dom after_word number_at compartments_within compartments_at grade_at body_at element_at range_at whole_element whole_parts whole_subject element_of subject_of numbers_in element_text subject_text
+unfolding digits dom after_word number_at compartments_within compartments_at grade_at body_at element_at range_at whole_element whole_parts whole_subject
+    element_of subject_of numbers_in element_text subject_text
 subjects_are_read = refl
 
 -- two elements, and whether the first dominates the second
@@ -176,11 +178,27 @@ relabels_are_allowed = refl
 
 -- a subject, another, and whether the one may become the other
 abbrev becomes : List (Parts × Parts × Bool)
-becomes =
-    (record { active = (Grade 10 (2 ∷ [])); low = (Grade 5 (2 ∷ [])); high = (Grade 20 (2 ∷ 3 ∷ [])) }, record { active = (Grade 5 (2 ∷ [])); low = (Grade 5 (2 ∷ [])); high = (Grade 20 (2 ∷ 3 ∷ [])) }, true) ∷
-    (record { active = (Grade 5 (2 ∷ [])); low = (Grade 5 (2 ∷ [])); high = (Grade 20 (2 ∷ 3 ∷ [])) }, record { active = Equal; low = Equal; high = Equal }, false) ∷
-    (record { active = (Grade 10 []); low = (Grade 5 []); high = (Grade 20 []) }, record { active = (Grade 10 []); low = (Grade 5 []); high = (Grade 21 []) }, false) ∷
-    (record { active = (Grade 10 []); low = (Grade 5 []); high = (Grade 20 []) }, record { active = (Grade 10 []); low = (Grade 4 []); high = (Grade 20 []) }, false) ∷
+becomes = (
+  record { active = (Grade 10 (2 ∷ [])); low = (Grade 5 (2 ∷ [])); high = (Grade 20 (2 ∷ 3 ∷ [])) },
+  record { active = (Grade 5 (2 ∷ [])); low = (Grade 5 (2 ∷ [])); high = (Grade 20 (2 ∷ 3 ∷ [])) },
+  true,
+)
+    ∷ (
+      record { active = (Grade 5 (2 ∷ [])); low = (Grade 5 (2 ∷ [])); high = (Grade 20 (2 ∷ 3 ∷ [])) },
+      record { active = Equal; low = Equal; high = Equal },
+      false,
+    )
+    ∷ (
+      record { active = (Grade 10 []); low = (Grade 5 []); high = (Grade 20 []) },
+      record { active = (Grade 10 []); low = (Grade 5 []); high = (Grade 21 []) },
+      false,
+    )
+    ∷ (
+      record { active = (Grade 10 []); low = (Grade 5 []); high = (Grade 20 []) },
+      record { active = (Grade 10 []); low = (Grade 4 []); high = (Grade 20 []) },
+      false,
+    )
+    ∷
     (record { active = (Grade 10 []); low = (Grade 5 []); high = (Grade 20 []) }, record { active = (Grade 10 []); low = Equal; high = (Grade 20 []) }, false) ∷
     (record { active = Equal; low = Low; high = High }, record { active = (Grade 10 []); low = Low; high = High }, true) ∷
     (record { active = (Grade 10 []); low = (Grade 5 []); high = Equal }, record { active = Equal; low = Equal; high = Equal }, true) ∷

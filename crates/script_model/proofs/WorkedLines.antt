@@ -69,14 +69,18 @@ asked =
     (codes "0 list % 65535", event.Call 0 (call.List [] 65535) ∷ []) ∷
     (codes "0 info /dev/tty", event.Call 0 (call.Info (codes "/dev/tty")) ∷ []) ∷
     (codes "0 chmod a 644", event.Call 0 (call.Chmod (codes "a") 420) ∷ []) ∷
-    (codes "0 chown a 0 4294967295", event.Call 0 (call.Chown (codes "a") 0 4294967295) ∷ []) ∷
-    (codes "0 setacl a access user:7:rwx,other::---,other::r--", event.Call 0 (call.SetAcl (codes "a") which.Access (entry (User 7) 7 ∷ entry Other 0 ∷ entry Other 4 ∷ [])) ∷ []) ∷
+    (codes "0 chown a 0 4294967295", event.Call 0 (call.Chown (codes "a") 0 4294967295) ∷ []) ∷ (
+      codes "0 setacl a access user:7:rwx,other::---,other::r--",
+      event.Call 0 (call.SetAcl (codes "a") which.Access (entry (User 7) 7 ∷ entry Other 0 ∷ entry Other 4 ∷ [])) ∷ [],
+    )
+    ∷
     (codes "0 setacl a default -", event.Call 0 (call.SetAcl (codes "a") which.Default []) ∷ []) ∷
     (codes "0 getacl a default", event.Call 0 (call.GetAcl (codes "a") which.Default) ∷ []) ∷
     (codes "0 setlabel a mls/10:3+2", event.Call 0 (call.SetLabel (codes "a") (Grade 10 (2 ∷ 3 ∷ []))) ∷ []) ∷
     (codes "0 setlabel a mls/eq", event.Call 0 (call.SetLabel (codes "a") Equal) ∷ []) ∷
     (codes "0 getlabel a", event.Call 0 (call.GetLabel (codes "a")) ∷ []) ∷
-    (codes "0 setproclabel mls/10(low-20:2)", event.Call 0 (call.SetProcLabel (record { active = (Grade 10 []); low = Low; high = (Grade 20 (2 ∷ [])) })) ∷ []) ∷
+    (codes "0 setproclabel mls/10(low-20:2)", event.Call 0 (call.SetProcLabel (record { active = (Grade 10 []); low = Low; high = (Grade 20 (2 ∷ [])) })) ∷ [])
+    ∷
     (codes "0 ident", event.Call 0 call.Ident ∷ []) ∷
     (codes "0 setcred 1 2 -", event.Call 0 (call.SetCred (record { uid = 1; gid = 2; groups = record { items = [] } })) ∷ []) ∷
     (codes "0 setcred 1 2 7+0+7", event.Call 0 (call.SetCred (record { uid = 1; gid = 2; groups = record { items = 7 ∷ 0 ∷ 7 ∷ [] } })) ∷ []) ∷
@@ -89,7 +93,9 @@ asked =
     []
 
 lines_are_events : map (λ row. events_of_line row.0) asked ≡ map (λ row. Some row.1) asked
-unfolding hex_on_literals read_of list_at entries_at entry_at tag_at qualifier_at numbered_at list_number_at digits_at perm_at more_at dom after_word number_at compartments_within compartments_at grade_at body_at element_at range_at whole_element whole_parts whole_subject element_of subject_of numbers_in parted number_below bytes_of_word unescaped path_of flags_of groups_of path_call_of rights_call_of caller_call_of call_of events_of_line
+unfolding hex_on_literals read_of list_at entries_at entry_at tag_at qualifier_at numbered_at list_number_at digits_at perm_at more_at dom after_word number_at
+    compartments_within compartments_at grade_at body_at element_at range_at whole_element whole_parts whole_subject element_of subject_of numbers_in parted
+    number_below bytes_of_word unescaped path_of flags_of groups_of path_call_of rights_call_of caller_call_of call_of events_of_line
 lines_are_events = refl
 
 -- lines that are bad
@@ -194,7 +200,9 @@ bad =
     []
 
 bad_lines_ask_nothing : map events_of_line bad ≡ map (λ _. None) bad
-unfolding hex_on_literals read_of list_at entries_at entry_at tag_at qualifier_at numbered_at list_number_at digits_at perm_at more_at dom after_word number_at compartments_within compartments_at grade_at body_at element_at range_at whole_element whole_parts whole_subject element_of subject_of numbers_in parted number_below bytes_of_word unescaped path_of flags_of groups_of path_call_of rights_call_of caller_call_of call_of events_of_line
+unfolding hex_on_literals read_of list_at entries_at entry_at tag_at qualifier_at numbered_at list_number_at digits_at perm_at more_at dom after_word number_at
+    compartments_within compartments_at grade_at body_at element_at range_at whole_element whole_parts whole_subject element_of subject_of numbers_in parted
+    number_below bytes_of_word unescaped path_of flags_of groups_of path_call_of rights_call_of caller_call_of call_of events_of_line
 bad_lines_ask_nothing = refl
 
 -- bytes so many times
@@ -222,7 +230,9 @@ longest =
     []
 
 longest_words : map (λ row. option_map length (events_of_line row.0)) longest ≡ map (λ row. row.1) longest
-unfolding hex_on_literals read_of list_at entries_at entry_at tag_at qualifier_at numbered_at list_number_at digits_at perm_at more_at dom after_word number_at compartments_within compartments_at grade_at body_at element_at range_at whole_element whole_parts whole_subject element_of subject_of numbers_in parted number_below bytes_of_word unescaped path_of flags_of groups_of path_call_of rights_call_of caller_call_of call_of events_of_line
+unfolding hex_on_literals read_of list_at entries_at entry_at tag_at qualifier_at numbered_at list_number_at digits_at perm_at more_at dom after_word number_at
+    compartments_within compartments_at grade_at body_at element_at range_at whole_element whole_parts whole_subject element_of subject_of numbers_in parted
+    number_below bytes_of_word unescaped path_of flags_of groups_of path_call_of rights_call_of caller_call_of call_of events_of_line
 longest_words = refl
 
 -- the answers that no worked run has: with slots that go on, and with bytes that are escaped

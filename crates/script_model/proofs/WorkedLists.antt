@@ -158,9 +158,23 @@ at element = record { active = element; low = element; high = element }
 abbrev wanted : List (Cred × Parts × Attrs × ℕ × Option Rule)
 wanted =
     -- Reading down and writing up pass.
-    (by 9, record { active = (Grade 10 (2 ∷ [])); low = (Grade 5 (2 ∷ [])); high = (Grade 20 (2 ∷ 3 ∷ [])) }, file (Grade 5 (2 ∷ [])) (digits_of 7 7 7), 4, None) ∷
-    (by 9, record { active = (Grade 5 (2 ∷ [])); low = (Grade 5 (2 ∷ [])); high = (Grade 20 (2 ∷ 3 ∷ [])) }, file (Grade 10 (2 ∷ [])) (digits_of 7 7 7), 2, None) ∷
-    (by 9, record { active = (Grade 5 (2 ∷ [])); low = (Grade 5 (2 ∷ [])); high = (Grade 20 (2 ∷ 3 ∷ [])) }, file (Grade 5 (2 ∷ [])) (digits_of 7 7 7), 7, None) ∷
+    (
+      by 9,
+      record { active = (Grade 10 (2 ∷ [])); low = (Grade 5 (2 ∷ [])); high = (Grade 20 (2 ∷ 3 ∷ [])) },
+      file (Grade 5 (2 ∷ [])) (digits_of 7 7 7),
+      4,
+      None,
+    )
+    ∷ (
+      by 9,
+      record { active = (Grade 5 (2 ∷ [])); low = (Grade 5 (2 ∷ [])); high = (Grade 20 (2 ∷ 3 ∷ [])) },
+      file (Grade 10 (2 ∷ [])) (digits_of 7 7 7),
+      2,
+      None,
+    )
+    ∷
+    (by 9, record { active = (Grade 5 (2 ∷ [])); low = (Grade 5 (2 ∷ [])); high = (Grade 20 (2 ∷ 3 ∷ [])) }, file (Grade 5 (2 ∷ [])) (digits_of 7 7 7), 7, None)
+    ∷
     -- Writing down, reading up and executing what is above do not.
     (by 9, at (Grade 10 (2 ∷ [])), file (Grade 5 (2 ∷ [])) (digits_of 7 7 7), 2, Some rule.LabelWrite) ∷
     (by 9, at (Grade 5 (2 ∷ [])), file (Grade 10 (2 ∷ [])) (digits_of 7 7 7), 4, Some rule.LabelRead) ∷

@@ -24,7 +24,8 @@ in_said : (n : List ℕ) (ws : List (List ℕ)) (es : List Event) → n ≡ code
 in_said n [] es named e = absurd cc
 in_said n (t ∷ []) es named e = absurd cc
 in_said n (t ∷ b ∷ []) es named e =
-    let s = stepped (λ (x : ℕ). option_and_then (λ (bs : List ℕ). only_if (not (eqb (length bs) 0)) (Some (arrivals x bs))) (bytes_of_word b)) (line_of t) es e in
+    let s =
+    stepped (λ (x : ℕ). option_and_then (λ (bs : List ℕ). only_if (not (eqb (length bs) 0)) (Some (arrivals x bs))) (bytes_of_word b)) (line_of t) es e in
     let u = stepped (λ (bs : List ℕ). only_if (not (eqb (length bs) 0)) (Some (arrivals s.value bs))) (bytes_of_word b) es s.gives in
     let k = kept (not (eqb (length u.value) 0)) (arrivals s.value u.value) es u.gives in
     let some : 0 < length u.value = omega (arith, eqb-false (length u.value) 0 (not-true _ k.0)) in
@@ -72,7 +73,8 @@ take_is_none = refl
 
 words_are_read : (ws : List (List ℕ)) (es : List Event) → Ask ws es → events_of_words ws ≡ Some es
 words_are_read [] es (asks_call n c same h) = absurd h.0
-words_are_read (w ∷ ws) es (asks_call n c same h) = rw (not_named w (codes "in") n h.0 in_is_none, not_named w (codes "take") n h.0 take_is_none, h.0, call_is_read c ws h.1, same) refl
+words_are_read (w ∷ ws) es (asks_call n c same h) =
+    rw (not_named w (codes "in") n h.0 in_is_none, not_named w (codes "take") n h.0 take_is_none, h.0, call_is_read c ws h.1, same) refl
 words_are_read [] es (asks_take n m some same h) = absurd h.0
 words_are_read (w ∷ []) es (asks_take n m some same h) = absurd h.1.0
 words_are_read (w ∷ t ∷ []) es (asks_take n m some same h) = absurd h.1.1.0

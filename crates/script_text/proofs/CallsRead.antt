@@ -30,14 +30,20 @@ call_is_read (call.Unlink p) ws h = let s = one_field (codes "unlink") (path p) 
 call_is_read (call.List p n) ws h = let s = two_fields (codes "list") (path p) (from n) ws needed needed h in rw (s.are, s.says_first, s.says_second) refl
 call_is_read (call.Info p) ws h = let s = one_field (codes "info") (path p) ws needed h in rw (s.are, s.says) refl
 call_is_read (call.Chmod p m) ws h = let s = two_fields (codes "chmod") (path p) (mode m) ws needed needed h in rw (s.are, s.says_first, s.says_second) refl
-call_is_read (call.Chown p u g) ws h = let s = three_fields (codes "chown") (path p) (id u) (id g) ws needed needed needed h in rw (s.are, s.says_first, s.says_second, s.says_third) refl
-call_is_read (call.SetAcl p l es) ws h = let s = three_fields (codes "setacl") (path p) (which l) (entries es) ws needed needed needed h in rw (s.are, s.says_first, s.says_second, s.says_third) refl
+call_is_read (call.Chown p u g) ws h =
+    let s = three_fields (codes "chown") (path p) (id u) (id g) ws needed needed needed h in rw (s.are, s.says_first, s.says_second, s.says_third) refl
+call_is_read (call.SetAcl p l es) ws h =
+    let s = three_fields (codes "setacl") (path p) (which l) (entries es) ws needed needed needed h in
+    rw (s.are, s.says_first, s.says_second, s.says_third) refl
 call_is_read (call.GetAcl p l) ws h = let s = two_fields (codes "getacl") (path p) (which l) ws needed needed h in rw (s.are, s.says_first, s.says_second) refl
-call_is_read (call.SetLabel p e) ws h = let s = two_fields (codes "setlabel") (path p) (element e) ws needed needed h in rw (s.are, s.says_first, s.says_second) refl
+call_is_read (call.SetLabel p e) ws h =
+    let s = two_fields (codes "setlabel") (path p) (element e) ws needed needed h in rw (s.are, s.says_first, s.says_second) refl
 call_is_read (call.GetLabel p) ws h = let s = one_field (codes "getlabel") (path p) ws needed h in rw (s.are, s.says) refl
 call_is_read (call.SetProcLabel s) ws h = let said = one_field (codes "setproclabel") (subject s) ws needed h in rw (said.are, said.says) refl
 call_is_read call.Ident ws h = rw (no_field (codes "ident") ws h) refl
-call_is_read (call.SetCred c) ws h = let s = three_fields (codes "setcred") (id c.uid) (id c.gid) (groups c.groups.items) ws needed needed needed h in rw (s.are, s.says_first, s.says_second, s.says_third) refl
+call_is_read (call.SetCred c) ws h =
+    let s = three_fields (codes "setcred") (id c.uid) (id c.gid) (groups c.groups.items) ws needed needed needed h in
+    rw (s.are, s.says_first, s.says_second, s.says_third) refl
 call_is_read (call.Umask m) ws h = let s = one_field (codes "umask") (mode m) ws needed h in rw (s.are, s.says) refl
 call_is_read (call.Revoke p) ws h = let s = one_field (codes "revoke") (path p) ws needed h in rw (s.are, s.says) refl
 call_is_read (call.Dup a) [] h = absurd h.0

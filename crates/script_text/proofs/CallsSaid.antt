@@ -25,7 +25,10 @@ open_with_said : (n p a : List ℕ) (F : Option OpenFlags) (M : Option ℕ) (c :
     → ((f : OpenFlags) (m : ℕ) → F ≡ Some f → M ≡ Some m → SayAll (flags f ∷ open_mode m ∷ []) more)
     → open_with p a F M ≡ Some c → SayAll (call_fields c) (n ∷ p ∷ a ∷ more)
 open_with_said n p a F M c more named said e =
-    let s = stepped (λ (x : List ℕ). option_and_then (λ (y : Access). option_and_then (λ (f : OpenFlags). option_map (λ (m : ℕ). call.Open x y f m) M) F) (access_of a)) (path_of p) c e in
+    let s =
+    stepped
+    (λ (x : List ℕ). option_and_then (λ (y : Access). option_and_then (λ (f : OpenFlags). option_map (λ (m : ℕ). call.Open x y f m) M) F) (access_of a))
+    (path_of p) c e in
     let t = stepped (λ (y : Access). option_and_then (λ (f : OpenFlags). option_map (λ (m : ℕ). call.Open s.value y f m) M) F) (access_of a) c s.gives in
     let u = stepped (λ (f : OpenFlags). option_map (λ (m : ℕ). call.Open s.value t.value f m) M) F c t.gives in
     let v = mapped (λ (m : ℕ). call.Open s.value t.value u.value m) M c u.gives in
@@ -52,7 +55,9 @@ caller_call_said w ws c e = elim (chosen (bytes_eq w (codes "setproclabel")) _ _
   | inr other ↦ elim (chosen (bytes_eq w (codes "ident")) _ _ (Some c) other.1) [
     | inl h ↦ ident_said w ws c (same_text w (codes "ident") h.0) h.1
     | inr other ↦ elim (chosen (bytes_eq w (codes "setcred")) _ _ (Some c) other.1) [
-      | inl h ↦ three_said id_of id_of groups_of (λ u g gs. call.SetCred (record { uid = u; gid = g; groups = record { items = gs } })) w ws c (λ t u v x y z is also too. (same_text w (codes "setcred") h.0, (is, (also, (too, tt))))) h.1
+      | inl h ↦
+          three_said id_of id_of groups_of (λ u g gs. call.SetCred (record { uid = u; gid = g; groups = record { items = gs } })) w ws c
+          (λ t u v x y z is also too. (same_text w (codes "setcred") h.0, (is, (also, (too, tt))))) h.1
       | inr other ↦ elim (chosen (bytes_eq w (codes "umask")) _ _ (Some c) other.1) [
         | inl h ↦ one_said mode_of (λ m. call.Umask m) w ws c (λ v x is. (same_text w (codes "umask") h.0, (is, tt))) h.1
         | inr none ↦ absurd cc
@@ -66,9 +71,13 @@ unfolding rights_call_of
 rights_call_said w ws c e = elim (chosen (bytes_eq w (codes "chmod")) _ _ (Some c) e) [
   | inl h ↦ two_said path_of mode_of (λ p m. call.Chmod p m) w ws c (λ v u x y is also. (same_text w (codes "chmod") h.0, (is, (also, tt)))) h.1
   | inr other ↦ elim (chosen (bytes_eq w (codes "chown")) _ _ (Some c) other.1) [
-    | inl h ↦ three_said path_of id_of id_of (λ p u g. call.Chown p u g) w ws c (λ t u v x y z is also too. (same_text w (codes "chown") h.0, (is, (also, (too, tt))))) h.1
+    | inl h ↦
+        three_said path_of id_of id_of (λ p u g. call.Chown p u g) w ws c
+        (λ t u v x y z is also too. (same_text w (codes "chown") h.0, (is, (also, (too, tt))))) h.1
     | inr other ↦ elim (chosen (bytes_eq w (codes "setacl")) _ _ (Some c) other.1) [
-      | inl h ↦ three_said path_of which_of entries_of (λ p l es. call.SetAcl p l es) w ws c (λ t u v x y z is also too. (same_text w (codes "setacl") h.0, (is, (also, (too, tt))))) h.1
+      | inl h ↦
+          three_said path_of which_of entries_of (λ p l es. call.SetAcl p l es) w ws c
+          (λ t u v x y z is also too. (same_text w (codes "setacl") h.0, (is, (also, (too, tt))))) h.1
       | inr other ↦ elim (chosen (bytes_eq w (codes "getacl")) _ _ (Some c) other.1) [
         | inl h ↦ two_said path_of which_of (λ p l. call.GetAcl p l) w ws c (λ v u x y is also. (same_text w (codes "getacl") h.0, (is, (also, tt)))) h.1
         | inr other ↦ elim (chosen (bytes_eq w (codes "setlabel")) _ _ (Some c) other.1) [

@@ -25,7 +25,8 @@ pub parted_more : (m : ℕ) (l : List ℕ) (k : ℕ) → position (λ b. eqb b m
 unfolding parted
 parted_more m l k h =
     let p = position_or_len (λ b. eqb b m) l in
-    elim (ltb p (length l)) as (λ b. ltb p (length l) ≡ b → cond b (Some p) None ≡ Some k → slice_split (λ b. eqb b m) l ≡ take k l ∷ slice_split (λ b. eqb b m) (drop (k + 1) l)) [
+    elim (ltb p (length l)) as
+    (λ b. ltb p (length l) ≡ b → cond b (Some p) None ≡ Some k → slice_split (λ b. eqb b m) l ≡ take k l ∷ slice_split (λ b. eqb b m) (drop (k + 1) l)) [
       | true ↦ λ test some.
           let here : p ≡ k = cc in
           slice_split_first (λ b. eqb b m) l 0 (ltb-true p (length l) test) ∙ ap (λ at. take at l ∷ slice_split (λ b. eqb b m) (drop (at + 1) l)) here
@@ -33,7 +34,8 @@ parted_more m l k h =
     ] refl h
 
 -- what follows the mark after the first part
-pub parted_cut : (m : ℕ) (l part others : List ℕ) (k : ℕ) → position (λ b. eqb b m) l ≡ Some k → part ≡ take k l → others ≡ drop k l → parted m l ≡ part ∷ parted m (take (length others - 1) (drop 1 others))
+pub parted_cut : (m : ℕ) (l part others : List ℕ) (k : ℕ) → position (λ b. eqb b m) l ≡ Some k → part ≡ take k l → others ≡ drop k l
+    → parted m l ≡ part ∷ parted m (take (length others - 1) (drop 1 others))
 parted_cut m l part others k h w o =
     let rest : take (length others - 1) (drop 1 others) ≡ drop (k + 1) l =
     ap (λ n. take n (drop 1 others)) (sym (length-drop 1 others)) ∙ take-length (drop 1 others) ∙ ap (drop 1) o ∙ drop-drop 1 k l in

@@ -10,6 +10,7 @@ path_ends text [] path h none = h ∙ ap (λ bs. Some bs) (append-nil path)
 path_ends text (b ∷ left) path h none = absurd (omega arith)
 
 -- a path of at most 1,024 bytes, put in place
-pub path_fits : (path : List ℕ) (r : Option (List ℕ)) → length path ≤ 1024 → (IsSome r ↔ (length path ≤ 1024)) → IfSome r (λ p. p ≡ path) → r ≡ if_short (Some path)
+pub path_fits : (path : List ℕ) (r : Option (List ℕ)) → length path ≤ 1024 → (IsSome r ↔ (length path ≤ 1024)) → IfSome r (λ p. p ≡ path)
+    → r ≡ if_short (Some path)
 path_fits path None fits some same = let is = some.1 fits in cc
 path_fits path (Some p) fits some same = rw (le-leb (length path) 1024 fits) (ap (λ bs. Some bs) same)

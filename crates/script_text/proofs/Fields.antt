@@ -28,8 +28,10 @@ two_said {A = A} first second make n (v ∷ w ∷ []) c said e =
 two_said first second make n (v ∷ w ∷ x ∷ ws) c said e = absurd cc
 
 -- what is read of three words is said, where their values are
-pub three_said : {A B C : Type 0} (first : List ℕ → Option A) (second : List ℕ → Option B) (third : List ℕ → Option C) (make : A → B → C → Call) (n : List ℕ) (ws : List (List ℕ)) (c : Call)
-    → ((u v w : List ℕ) (x : A) (y : B) (z : C) → first u ≡ Some x → second v ≡ Some y → third w ≡ Some z → SayAll (call_fields (make x y z)) (n ∷ u ∷ v ∷ w ∷ []))
+pub three_said : {A B C : Type 0} (first : List ℕ → Option A) (second : List ℕ → Option B) (third : List ℕ → Option C) (make : A → B → C → Call) (n : List ℕ)
+    (ws : List (List ℕ)) (c : Call)
+    → ((u v w : List ℕ) (x : A) (y : B) (z : C) → first u ≡ Some x → second v ≡ Some y → third w ≡ Some z
+    → SayAll (call_fields (make x y z)) (n ∷ u ∷ v ∷ w ∷ []))
     → with_three first second third make ws ≡ Some c → SayAll (call_fields c) (n ∷ ws)
 three_said first second third make n [] c said e = absurd cc
 three_said first second third make n (u ∷ []) c said e = absurd cc
@@ -67,11 +69,18 @@ pub record AreTwo (called : List ℕ) (f g : Field) (ws : List (List ℕ)) : Typ
   pub says_first : Says f first
   pub says_second : Says g second
 
-pub two_fields : (called : List ℕ) (f g : Field) (ws : List (List ℕ)) → (IsUnsaid f → ⊥) → (IsUnsaid g → ⊥) → SayAll (name called ∷ f ∷ g ∷ []) ws → AreTwo called f g ws
+pub two_fields : (called : List ℕ) (f g : Field) (ws : List (List ℕ)) → (IsUnsaid f → ⊥) → (IsUnsaid g → ⊥) → SayAll (name called ∷ f ∷ g ∷ []) ws
+    → AreTwo called f g ws
 two_fields called f g [] needed also h = absurd h.0
 two_fields called f g (n ∷ []) needed also h = absurd (needed h.1.0)
 two_fields called f g (n ∷ v ∷ []) needed also h = absurd (also h.1.1.0)
-two_fields called f g (n ∷ v ∷ w ∷ []) needed also h = record { first = v; second = w; are = ap (λ n. n ∷ v ∷ w ∷ []) h.0; says_first = h.1.0; says_second = h.1.1.0 }
+two_fields called f g (n ∷ v ∷ w ∷ []) needed also h = record {
+  first = v;
+  second = w;
+  are = ap (λ n. n ∷ v ∷ w ∷ []) h.0;
+  says_first = h.1.0;
+  says_second = h.1.1.0;
+}
 two_fields called f g (n ∷ v ∷ w ∷ x ∷ ws) needed also h = absurd h.1.1.1
 
 -- the words that say a name and three such fields
@@ -84,7 +93,8 @@ pub record AreThree (called : List ℕ) (f g k : Field) (ws : List (List ℕ)) :
   pub says_second : Says g second
   pub says_third : Says k third
 
-pub three_fields : (called : List ℕ) (f g k : Field) (ws : List (List ℕ)) → (IsUnsaid f → ⊥) → (IsUnsaid g → ⊥) → (IsUnsaid k → ⊥) → SayAll (name called ∷ f ∷ g ∷ k ∷ []) ws → AreThree called f g k ws
+pub three_fields : (called : List ℕ) (f g k : Field) (ws : List (List ℕ)) → (IsUnsaid f → ⊥) → (IsUnsaid g → ⊥) → (IsUnsaid k → ⊥)
+    → SayAll (name called ∷ f ∷ g ∷ k ∷ []) ws → AreThree called f g k ws
 three_fields called f g k [] needed also too h = absurd h.0
 three_fields called f g k (n ∷ []) needed also too h = absurd (needed h.1.0)
 three_fields called f g k (n ∷ u ∷ []) needed also too h = absurd (also h.1.1.0)

@@ -30,7 +30,8 @@ parted_join : (ns : List ℕ) (n : ℕ) → AllByRecursion IsId (n ∷ ns) → p
 unfolding parted
 parted_join [] n h = slice_split_none (λ b. eqb b 43) (decimal n) (no_plus (decimal n) (digits_of_number n (omega (arith, h.0))))
 parted_join (m ∷ ns) n h =
-    slice_split_at (λ b. eqb b 43) (decimal n) 43 (join_with_byte 43 (map decimal (m ∷ ns))) (no_plus (decimal n) (digits_of_number n (omega (arith, h.0)))) refl
+    slice_split_at (λ b. eqb b 43) (decimal n) 43 (join_with_byte 43 (map decimal (m ∷ ns))) (no_plus (decimal n) (digits_of_number n (omega (arith, h.0))))
+    refl
     ∙ ap (λ (parts : List (List ℕ)). decimal n ∷ parts) (parted_join ns m h.1)
 
 -- a dash is no such text

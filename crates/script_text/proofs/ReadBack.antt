@@ -91,7 +91,8 @@ all_bytes (b ∷ bs) h = λ i. elim i as (λ i. get_or (b ∷ bs) i 0 < 256) [ z
 pairs_back : (text bs : List ℕ) → length text ≡ 2 * length bs → 0 < length bs → length bs ≤ 512 → decode_of text ≡ Ok bs → bytes_of_word text ≡ Some bs
 unfolding bytes_of_word
 pairs_back text bs twice some most h =
-    let no_dash : bytes_eq text (codes "-") ≡ false = false_from_ne_true _ (λ e. let one : length text ≡ 1 = ap length (same_text text (codes "-") e) in absurd (omega arith)) in
+    let no_dash : bytes_eq text (codes "-") ≡ false =
+    false_from_ne_true _ (λ e. let one : length text ≡ 1 = ap length (same_text text (codes "-") e) in absurd (omega arith)) in
     let not_empty : eqb (length text) 0 ≡ false = ne_eqb (length text) 0 (λ e. absurd (omega (arith, e))) in
     let short : ltb 1024 (length text) ≡ false = le-ltb 1024 (length text) (omega arith) in
     rw (no_dash, not_empty, short, h) refl
@@ -105,7 +106,8 @@ unfolding bytes_of_word hex_word
 bytes_back [] most h = refl
 bytes_back (b ∷ bs) most h =
     ap bytes_of_word (hex_pairs b bs)
-    ∙ pairs_back (encode_lower (b ∷ bs)) (b ∷ bs) (length-encode_with lower_digits (b ∷ bs)) (omega arith) most (decode_of-encode_lower (b ∷ bs) (all_bytes (b ∷ bs) h))
+    ∙ pairs_back (encode_lower (b ∷ bs)) (b ∷ bs) (length-encode_with lower_digits (b ∷ bs)) (omega arith) most
+    (decode_of-encode_lower (b ∷ bs) (all_bytes (b ∷ bs) h))
 
 -- each of the sixteen digits
 digit_back : (k : ℕ) → k < 16 → digit_value (get_or lower_digits k 0) ≡ k

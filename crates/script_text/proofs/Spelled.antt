@@ -27,7 +27,8 @@ read_escape : (high low : ℕ) (rest : List ℕ) → digit_value high < 16 → d
     → unescaped (37 ∷ high ∷ low ∷ rest) ≡ then_bytes (Some (pair_value high low)) (unescaped rest)
 unfolding unescaped
 read_escape high low rest h l other =
-    let passes = and_from _ _ (and_from _ _ (lt-ltb (digit_value high) 16 h) (lt-ltb (digit_value low) 16 l)) (not_from_false (is_plain (pair_value high low)) other) in
+    let passes =
+    and_from _ _ (and_from _ _ (lt-ltb (digit_value high) 16 h) (lt-ltb (digit_value low) 16 l)) (not_from_false (is_plain (pair_value high low)) other) in
     ap (λ c. then_bytes (only_if c (Some (pair_value high low))) (unescaped rest)) passes
 
 -- a spelling is read as what it means
@@ -88,14 +89,15 @@ has_spelling (b ∷ []) bytes e =
 has_spelling (b ∷ c ∷ []) bytes e =
     let f = first_of (plain_value b) (unescaped (c ∷ [])) bytes e in
     rw f.all (spelled_plain b f.byte (c ∷ []) f.more f.is (has_spelling (c ∷ []) f.more f.are))
-has_spelling (b ∷ high ∷ low ∷ rest) bytes e = elim (chosen (eqb b 37) (then_bytes (escape_value high low) (unescaped rest)) (then_bytes (plain_value b) (unescaped (high ∷ low ∷ rest))) (Some bytes) e) [
-  | inl escape ↦
-      let f = first_of (escape_value high low) (unescaped rest) bytes escape.1 in
-      rw (eqb-true b 37 escape.0, f.all) (spelled_escape high low f.byte rest f.more f.is (has_spelling rest f.more f.are))
-  | inr other ↦
-      let f = first_of (plain_value b) (unescaped (high ∷ low ∷ rest)) bytes other.1 in
-      rw f.all (spelled_plain b f.byte (high ∷ low ∷ rest) f.more f.is (has_spelling (high ∷ low ∷ rest) f.more f.are))
-]
+has_spelling (b ∷ high ∷ low ∷ rest) bytes e =
+    elim (chosen (eqb b 37) (then_bytes (escape_value high low) (unescaped rest)) (then_bytes (plain_value b) (unescaped (high ∷ low ∷ rest))) (Some bytes) e) [
+      | inl escape ↦
+          let f = first_of (escape_value high low) (unescaped rest) bytes escape.1 in
+          rw (eqb-true b 37 escape.0, f.all) (spelled_escape high low f.byte rest f.more f.is (has_spelling rest f.more f.are))
+      | inr other ↦
+          let f = first_of (plain_value b) (unescaped (high ∷ low ∷ rest)) bytes other.1 in
+          rw f.all (spelled_plain b f.byte (high ∷ low ∷ rest) f.more f.is (has_spelling (high ∷ low ∷ rest) f.more f.are))
+    ]
 
 -- the path of a text
 short_path : (bytes : Option (List ℕ)) (path : List ℕ) → if_short bytes ≡ Some path → (bytes ≡ Some path) × (length path ≤ 1024)

@@ -15,7 +15,8 @@ arrivals line bs = map (λ b. event.Byte line b) bs
 
 -- `in ttyN HEX`: 1 to 512 bytes, an event for each
 abbrev pub in_of : List (List ℕ) → Option (List Event)
-in_of (tty ∷ bytes ∷ []) = option_and_then (λ n. option_and_then (λ bs. only_if (not (length bs == 0)) (Some (arrivals n bs))) (bytes_of_word bytes)) (line_of tty)
+in_of (tty ∷ bytes ∷ []) =
+    option_and_then (λ n. option_and_then (λ bs. only_if (not (length bs == 0)) (Some (arrivals n bs))) (bytes_of_word bytes)) (line_of tty)
 in_of _ = None
 
 -- `take ttyN MAX`: MAX is 1 to 512

@@ -107,7 +107,10 @@ tty_node = super_node (codes "dev" ∷ codes "tty" ∷ []) kind.Tty mode_666 ele
 
 -- a user's home
 abbrev pub home_node : User → NodeAt
-home_node user = record { path = codes "home" ∷ user.name ∷ []; node = new_node kind.Dir (attrs_of_owner user.cred.uid user.cred.gid kind.Dir mode_700 user.label.active) None [] }
+home_node user = record {
+  path = codes "home" ∷ user.name ∷ [];
+  node = new_node kind.Dir (attrs_of_owner user.cred.uid user.cred.gid kind.Dir mode_700 user.label.active) None [];
+}
 
 -- the directories and the files of programs
 abbrev pub with_images : List NodeAt

@@ -34,7 +34,8 @@ parts (b ∷ bs) =
     ] refl
 
 -- bytes without a newline join the first part of what follows them
-split-one_line : (line text : List ℕ) (m : List ℕ) (ms : List (List ℕ)) → is_one_line line ≡ true → slice_split is_newline text ≡ m ∷ ms → slice_split is_newline (line ++ text) ≡ (line ++ m) ∷ ms
+split-one_line : (line text : List ℕ) (m : List ℕ) (ms : List (List ℕ)) → is_one_line line ≡ true → slice_split is_newline text ≡ m ∷ ms
+    → slice_split is_newline (line ++ text) ≡ (line ++ m) ∷ ms
 split-one_line [] text m ms one h = h
 split-one_line (b ∷ bs) text m ms one h =
     let both = and_parts (not (is_newline b)) (is_one_line bs) one in
@@ -103,13 +104,15 @@ unfolding built_events events_of_line
 long-is-bad l h = rw (lt-leb (length l) 4096 h) refl
 
 -- a line that is too long is bad, whatever follows
-pub long-line : (v : View) (room n : ℕ) (line text : List ℕ) → is_one_line line ≡ true → 4096 < length line → out_seen v room (reads_from n (lines (line ++ text))) ≡ text_end (Some n)
+pub long-line : (v : View) (room n : ℕ) (line text : List ℕ) → is_one_line line ≡ true → 4096 < length line
+    → out_seen v room (reads_from n (lines (line ++ text))) ≡ text_end (Some n)
 long-line v room n line text one long =
     let first = lines-long line text one long in
     ap (λ ls. out_seen v room (reads_from n ls)) first.are ∙ bad-line v room n first.head first.others (long-is-bad first.head first.long)
 
 -- Where a line has come to its end and the run goes on, the text that follows begins a new line.
-pub goes-emptied : (r : Result (Unit {0}) Stop) (a b : Option (List ℕ)) (x : Output) (F : List (List ℕ) → Output) (line text : List ℕ) → OnOk r (line ≡ []) → Goes r a x b (F (lines text)) → Goes r a x b (F (lines (line ++ text)))
+pub goes-emptied : (r : Result (Unit {0}) Stop) (a b : Option (List ℕ)) (x : Output) (F : List (List ℕ) → Output) (line text : List ℕ) → OnOk r (line ≡ [])
+    → Goes r a x b (F (lines text)) → Goes r a x b (F (lines (line ++ text)))
 goes-emptied (Ok u) a b x F line text empty h = rw empty h
 goes-emptied (Err s) a b x F line text empty h = goes-stop s a b x (F (lines text)) (F (lines (line ++ text))) h
 

@@ -18,7 +18,8 @@ use Rattle.tty_host.specs.Ends.{IsScriptStatus, Writes}
 use Rattle.tty_host.specs.Tops.{IsValid, RanScript}
 
 -- a new run is to write all of the machine's output
-pub start-come : (says : Boot) (run : Run) (text : List ℕ) → run.kernel ≡ view (boot says) → run.room ≡ 262144 → run.number ≡ 1 → run.line.items ≡ [] → to_come run text ≡ run_out says (reads text)
+pub start-come : (says : Boot) (run : Run) (text : List ℕ) → run.kernel ≡ view (boot says) → run.room ≡ 262144 → run.number ≡ 1 → run.line.items ≡ []
+    → to_come run text ≡ run_out says (reads text)
 start-come says run text kernel room number line = rw (kernel, room, number, line) (sym (run_out-seen says (reads text)))
 
 -- over a boot text without a bad line that is the output of the script
@@ -33,7 +34,8 @@ pub no-bad-line : (says : Result Boot ℕ) (b : Boot) → says ≡ Ok b → IsEr
 no-bad-line says b e bad = cc
 
 -- valid texts have the status 0
-after-good : (says : Result Boot ℕ) (text : List ℕ) → IsOk says → (reads text).bad ≡ None → length (reads text).events ≤ 262144 → (after_boot says text).status ≡ 0
+after-good : (says : Result Boot ℕ) (text : List ℕ) → IsOk says → (reads text).bad ≡ None → length (reads text).events ≤ 262144
+    → (after_boot says text).status ≡ 0
 unfolding text_end
 after-good (Ok b) text good none fits = rw (le-ltb 262144 (length (reads text).events) fits, none) refl
 after-good (Err n) text good none fits = cc
@@ -42,7 +44,8 @@ valid-status : (boot_text text : List ℕ) → IsValid boot_text text → (scrip
 valid-status boot_text text h = after-good (boot_of boot_text) text h.boot h.script h.fits
 
 -- so where nothing failed and there was memory no other status is left
-complete : (status : Status) (out : Output) (a b : Option (List ℕ)) → IsScriptStatus status → Writes status out a b → out.status ≡ 0 → (status ≡ ReadFault → ⊥) → (status ≡ WriteFault → ⊥) → (status ≡ Done) ⊎ (status ≡ Memory)
+complete : (status : Status) (out : Output) (a b : Option (List ℕ)) → IsScriptStatus status → Writes status out a b → out.status ≡ 0 → (status ≡ ReadFault → ⊥)
+    → (status ≡ WriteFault → ⊥) → (status ≡ Done) ⊎ (status ≡ Memory)
 complete Done out a b s w zero read write = inl refl
 complete Usage out a b s w zero read write = absurd s
 complete Input out a b s w zero read write = absurd (omega (arith, w.code))

@@ -16,7 +16,8 @@ pub record Took (rest : List ℕ) (after : Option (List ℕ)) (into : List ℕ) 
   pub whole : rest ≡ take n into ++ left
   pub none : n ≡ 0 → rest ≡ []
 
-pub gave-took : (before after : Option (List ℕ)) (into : List ℕ) (n : ℕ) (rest : List ℕ) → before ≡ Some rest → Gave before after into n → Took rest after into n
+pub gave-took : (before after : Option (List ℕ)) (into : List ℕ) (n : ℕ) (rest : List ℕ) → before ≡ Some rest → Gave before after into n
+    → Took rest after into n
 gave-took None after into n rest e h = cc
 gave-took (Some bytes) None into n rest e h = absurd h
 gave-took (Some bytes) (Some r) into n rest e h =

@@ -22,7 +22,8 @@ appended-append (Some x) (Some y) None xs ys h k = absurd k
 appended-append (Some x) (Some y) (Some z) xs ys h k = rw (k, h) (append_assoc x xs ys)
 
 -- what the next write took from the rest
-pub appended-take : (a b c : Option (List ℕ)) (bytes : List ℕ) (at n : ℕ) → Appended a b (take at bytes) → Appended b c (take n (drop at bytes)) → Appended a c (take (at + n) bytes)
+pub appended-take : (a b c : Option (List ℕ)) (bytes : List ℕ) (at n : ℕ) → Appended a b (take at bytes) → Appended b c (take n (drop at bytes))
+    → Appended a c (take (at + n) bytes)
 appended-take a b c bytes at n h k = rw (take-add at n bytes) (appended-append a b c (take at bytes) (take n (drop at bytes)) h k)
 
 among-mapped : (line : List ℕ) (fronts : List (List ℕ)) (front : List ℕ) → Among fronts front → Among (map (λ f. line ++ f) fronts) (line ++ front)
@@ -115,7 +116,8 @@ unfolding Goes
 goes-failed a b x y h = h
 
 -- where memory ran out before the event that comes next
-pub goes-memory : (a : Option (List ℕ)) (v : View) (e : Event) (line : List ℕ) (more y : Output) → finds_no_memory v e ≡ true → Goes (Err NoMemory) a (joined v e line more) a y
+pub goes-memory : (a : Option (List ℕ)) (v : View) (e : Event) (line : List ℕ) (more y : Output) → finds_no_memory v e ≡ true
+    → Goes (Err NoMemory) a (joined v e line more) a y
 unfolding Goes
 goes-memory a v e line more y wants = record {
   front = [];

@@ -30,7 +30,8 @@ pub record RanScript (status : Status) (boot src : SourceUse) (out : SinkUse) : 
   -- status 0 says that the text was read to its end
   pub all_read : (text : List ℕ) → src.left ≡ Some text → status ≡ Done → src.rest ≡ Some []
   -- valid texts give status 0 where nothing failed and there was memory
-  pub complete : (boot_text text : List ℕ) → boot.left ≡ Some boot_text → src.left ≡ Some text → IsValid boot_text text → ¬ SourceFailed boot → ¬ SourceFailed src → ¬ SinkFailed out → (status ≡ Done) ⊎ (status ≡ Memory)
+  pub complete : (boot_text text : List ℕ) → boot.left ≡ Some boot_text → src.left ≡ Some text → IsValid boot_text text → ¬ SourceFailed boot
+      → ¬ SourceFailed src → ¬ SinkFailed out → (status ≡ Done) ⊎ (status ≡ Memory)
   -- statuses 3 and 4 come only where a count of faults rose in the call
   pub read_fault : status ≡ ReadFault → SourceFailed boot ⊎ SourceFailed src
   pub write_fault : status ≡ WriteFault → SinkFailed out
@@ -39,7 +40,8 @@ pub record RanScript (status : Status) (boot src : SourceUse) (out : SinkUse) : 
   pub unread : (boot_text : List ℕ) → boot.left ≡ Some boot_text → IsErr (boot_of boot_text) → Unread src
   -- In the run of the script each refusal names the first rule that denies; no byte of a line moves through a file that was opened
   -- before the line's last revoke; and labels dominate at each open and, where the boot text says so, at each read and write.
-  pub lawful : (boot_text text : List ℕ) (says : Boot) → boot.left ≡ Some boot_text → src.left ≡ Some text → boot_of boot_text ≡ Ok says → ObeysLaws says (reads text).events
+  pub lawful : (boot_text text : List ℕ) (says : Boot) → boot.left ≡ Some boot_text → src.left ≡ Some text → boot_of boot_text ≡ Ok says
+      → ObeysLaws says (reads text).events
 
 abbrev pub usage_line : List ℕ
 usage_line = codes "usage: revtty script [BOOT] | session [BOOT] | load N START | serve DIR BOOT\n"

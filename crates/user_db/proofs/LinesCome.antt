@@ -39,7 +39,9 @@ pub lines_more : (t : List ℕ) (k : ℕ) → position is_newline t ≡ Some k �
 unfolding lines
 lines_more t k h =
     let p = position_or_len is_newline t in
-    elim (ltb p (length t)) as (λ b. ltb p (length t) ≡ b → cond b (Some p) None ≡ Some k → without_empty_last (slice_split is_newline t) ≡ take k t ∷ without_empty_last (slice_split is_newline (drop (k + 1) t))) [
+    elim (ltb p (length t)) as
+    (λ b. ltb p (length t) ≡ b → cond b (Some p) None ≡ Some k
+    → without_empty_last (slice_split is_newline t) ≡ take k t ∷ without_empty_last (slice_split is_newline (drop (k + 1) t))) [
       | true ↦ λ test some.
           let here : p ≡ k = cc in
           ap without_empty_last (slice_split_first is_newline t 0 (ltb-true p (length t) test))

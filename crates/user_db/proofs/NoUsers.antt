@@ -30,7 +30,8 @@ line_at_users n line draft d e =
 from_users : (ls : List (List ℕ)) (n : ℕ) (draft : Draft) (boot : Boot) → boot_from n draft ls ≡ Ok boot → boot.users ≡ draft.users
 from_users [] n draft boot e = let same : boot_of_draft draft ≡ boot = cc in ap (λ (x : Boot). x.users) (sym same)
 from_users (line ∷ more) n draft boot e =
-    elim (with_line_at n line draft) as (λ o. with_line_at n line draft ≡ o → unless_bad n o (λ d. boot_from (n + 1) d more) ≡ Ok boot → boot.users ≡ draft.users) [
+    elim (with_line_at n line draft) as
+    (λ o. with_line_at n line draft ≡ o → unless_bad n o (λ d. boot_from (n + 1) d more) ≡ Ok boot → boot.users ≡ draft.users) [
       | None ↦ λ is e. absurd cc
       | Some d ↦ λ is e. from_users more (n + 1) d boot e ∙ line_at_users n line draft d is
     ] refl e

@@ -58,7 +58,8 @@ draft_by draft (line ∷ more) = draft_by (draft_after draft line) more
 
 taken-new : (line : BootLine) (draft d : Draft) → with_line line draft ≡ Some d → IsNew draft line × (d ≡ draft_after draft line)
 taken-new (Recheck on) draft d e =
-    elim (is_none draft.recheck) as (λ b. cond b (Some (record draft { recheck = Some on })) None ≡ Some d → (b ≡ true) × (d ≡ record draft { recheck = Some on })) [
+    elim (is_none draft.recheck) as
+    (λ b. cond b (Some (record draft { recheck = Some on })) None ≡ Some d → (b ≡ true) × (d ≡ record draft { recheck = Some on })) [
       | true ↦ λ e. (refl, cc)
       | false ↦ λ e. absurd cc
     ] e
@@ -74,7 +75,8 @@ record Took (n : ℕ) (text : List ℕ) (draft d : Draft) : Type 0 where
   new : IsNew draft line
   after : d ≡ draft_after draft line
 
-took-read : (o : Option BootLine) (n : ℕ) (text : List ℕ) (draft d : Draft) → boot_line_of text ≡ o → n ≤ 256 → option_and_then (λ l. with_line l draft) o ≡ Some d → Took n text draft d
+took-read : (o : Option BootLine) (n : ℕ) (text : List ℕ) (draft d : Draft) → boot_line_of text ≡ o → n ≤ 256
+    → option_and_then (λ l. with_line l draft) o ≡ Some d → Took n text draft d
 took-read None n text draft d is few e = absurd cc
 took-read (Some line) n text draft d is few e =
     let taken = taken-new line draft d e in
@@ -87,7 +89,8 @@ took n text draft d e =
       | false ↦ λ many e. absurd cc
     ] refl e
 
-takes : (n : ℕ) (text : List ℕ) (draft : Draft) (line : BootLine) → n ≤ 256 → Spells text line → IsNew draft line → with_line_at n text draft ≡ Some (draft_after draft line)
+takes : (n : ℕ) (text : List ℕ) (draft : Draft) (line : BootLine) → n ≤ 256 → Spells text line → IsNew draft line
+    → with_line_at n text draft ≡ Some (draft_after draft line)
 takes n text draft line few spells new =
     rw (le-leb n 256 few) (ap (option_and_then (λ l. with_line l draft)) (spells-line text line spells) ∙ new-taken line draft new)
 
@@ -101,18 +104,21 @@ record SaysFrom (n : ℕ) (draft : Draft) (texts : List (List ℕ)) (boot : Boot
   says : boot ≡ boot_of_draft (draft_by draft lines)
 
 -- what is new behind a line is new before it, and is not said by it
-new-before : (draft : Draft) (line : BootLine) (lines : List BootLine) → AllByRecursion (IsNew (draft_after draft line)) lines → AllByRecursion (IsNew draft) lines × AllByRecursion (λ other. says_again line other ≡ false) lines
+new-before : (draft : Draft) (line : BootLine) (lines : List BootLine) → AllByRecursion (IsNew (draft_after draft line)) lines
+    → AllByRecursion (IsNew draft) lines × AllByRecursion (λ other. says_again line other ≡ false) lines
 new-before draft line [] all = (tt, tt)
 new-before draft (Recheck on) (Recheck off ∷ more) all = absurd cc
 
-new-behind : (draft : Draft) (line : BootLine) (lines : List BootLine) → AllByRecursion (IsNew draft) lines → AllByRecursion (λ other. says_again line other ≡ false) lines → AllByRecursion (IsNew (draft_after draft line)) lines
+new-behind : (draft : Draft) (line : BootLine) (lines : List BootLine) → AllByRecursion (IsNew draft) lines
+    → AllByRecursion (λ other. says_again line other ≡ false) lines → AllByRecursion (IsNew (draft_after draft line)) lines
 new-behind draft line [] all apart = tt
 new-behind draft (Recheck on) (Recheck off ∷ more) all apart = absurd cc
 
 read-says : (texts : List (List ℕ)) (n : ℕ) (draft : Draft) (boot : Boot) → n ≤ 257 → boot_from n draft texts ≡ Ok boot → SaysFrom n draft texts boot
 read-says [] n draft boot few e = record { lines = []; spelled = tt; few = omega arith; apart = tt; new = tt; says = cc }
 read-says (text ∷ more) n draft boot few e =
-    elim (with_line_at n text draft) as (λ o. with_line_at n text draft ≡ o → unless_bad n o (λ d. boot_from (n + 1) d more) ≡ Ok boot → SaysFrom n draft (text ∷ more) boot) [
+    elim (with_line_at n text draft) as
+    (λ o. with_line_at n text draft ≡ o → unless_bad n o (λ d. boot_from (n + 1) d more) ≡ Ok boot → SaysFrom n draft (text ∷ more) boot) [
       | None ↦ λ is e. absurd cc
       | Some d ↦ λ is e.
           let t = took n text draft d is in
@@ -130,7 +136,8 @@ read-says (text ∷ more) n draft boot few e =
           }
     ] refl e
 
-says-read : (texts : List (List ℕ)) (lines : List BootLine) (n : ℕ) (draft : Draft) → SpellAll texts lines → n + length texts ≤ 257 → AreApart lines → AllByRecursion (IsNew draft) lines → boot_from n draft texts ≡ Ok (boot_of_draft (draft_by draft lines))
+says-read : (texts : List (List ℕ)) (lines : List BootLine) (n : ℕ) (draft : Draft) → SpellAll texts lines → n + length texts ≤ 257 → AreApart lines
+    → AllByRecursion (IsNew draft) lines → boot_from n draft texts ≡ Ok (boot_of_draft (draft_by draft lines))
 says-read [] [] n draft spelled few apart new = refl
 says-read [] (line ∷ lines) n draft spelled few apart new = absurd spelled
 says-read (text ∷ more) [] n draft spelled few apart new = absurd spelled
@@ -168,11 +175,13 @@ record StopsAt (n m : ℕ) (draft : Draft) (texts : List (List ℕ)) : Type 0 wh
   good : (k : ℕ) → k + n ≤ m → (boot : Boot) × (boot_from n draft (take k texts) ≡ Ok boot)
 
 -- one line more in front
-stops-next : (n m : ℕ) (draft d : Draft) (text : List ℕ) (more : List (List ℕ)) → with_line_at n text draft ≡ Some d → StopsAt (n + 1) m d more → StopsAt n m draft (text ∷ more)
+stops-next : (n m : ℕ) (draft d : Draft) (text : List ℕ) (more : List (List ℕ)) → with_line_at n text draft ≡ Some d → StopsAt (n + 1) m d more
+    → StopsAt n m draft (text ∷ more)
 stops-next n m draft d text more is s =
     let later : n + 1 ≤ m = s.after in
     let inside : m < (n + 1) + length more = s.within in
-    let front : (rest : List (List ℕ)) → boot_from n draft (text ∷ rest) ≡ boot_from (n + 1) d rest = λ rest. ap (λ o. unless_bad n o (λ d. boot_from (n + 1) d rest)) is in
+    let front : (rest : List (List ℕ)) → boot_from n draft (text ∷ rest) ≡ boot_from (n + 1) d rest =
+    λ rest. ap (λ o. unless_bad n o (λ d. boot_from (n + 1) d rest)) is in
     record {
       after = omega arith;
       within = omega arith;
@@ -188,7 +197,8 @@ stops-next n m draft d text more is s =
 stops : (texts : List (List ℕ)) (n m : ℕ) (draft : Draft) → boot_from n draft texts ≡ Err m → StopsAt n m draft texts
 stops [] n m draft e = absurd cc
 stops (text ∷ more) n m draft e =
-    elim (with_line_at n text draft) as (λ o. with_line_at n text draft ≡ o → unless_bad n o (λ d. boot_from (n + 1) d more) ≡ Err m → StopsAt n m draft (text ∷ more)) [
+    elim (with_line_at n text draft) as
+    (λ o. with_line_at n text draft ≡ o → unless_bad n o (λ d. boot_from (n + 1) d more) ≡ Err m → StopsAt n m draft (text ∷ more)) [
       | None ↦ λ is e.
           let here : n ≡ m = cc in
           record {
@@ -203,11 +213,14 @@ stops (text ∷ more) n m draft e =
     ] refl e
 
 -- the first lines of good ones are good
-prefix-good : (texts : List (List ℕ)) (n k : ℕ) (draft : Draft) (boot : Boot) → boot_from n draft texts ≡ Ok boot → (less : Boot) × (boot_from n draft (take k texts) ≡ Ok less)
+prefix-good : (texts : List (List ℕ)) (n k : ℕ) (draft : Draft) (boot : Boot) → boot_from n draft texts ≡ Ok boot
+    → (less : Boot) × (boot_from n draft (take k texts) ≡ Ok less)
 prefix-good texts n zero draft boot e = (boot_of_draft draft, refl)
 prefix-good [] n (suc k) draft boot e = (boot_of_draft draft, refl)
 prefix-good (text ∷ more) n (suc k) draft boot e =
-    elim (with_line_at n text draft) as (λ o. with_line_at n text draft ≡ o → unless_bad n o (λ d. boot_from (n + 1) d more) ≡ Ok boot → (less : Boot) × (boot_from n draft (text ∷ take k more) ≡ Ok less)) [
+    elim (with_line_at n text draft) as
+    (λ o. with_line_at n text draft ≡ o → unless_bad n o (λ d. boot_from (n + 1) d more) ≡ Ok boot
+    → (less : Boot) × (boot_from n draft (text ∷ take k more) ≡ Ok less)) [
       | None ↦ λ is e. absurd cc
       | Some d ↦ λ is e.
           let p = prefix-good more (n + 1) k d boot e in
@@ -219,7 +232,8 @@ bad_is_first texts n e =
     let s = stops texts 1 n no_lines e in
     let later : 1 ≤ n = s.after in
     let inside : n < 1 + length texts = s.within in
-    let here : boot_from 1 no_lines (take n texts) ≡ Err n = let count : n + 1 - 1 ≡ n = omega arith in ap (λ k. boot_from 1 no_lines (take k texts)) (sym count) ∙ s.bad in
+    let here : boot_from 1 no_lines (take n texts) ≡ Err n =
+    let count : n + 1 - 1 ≡ n = omega arith in ap (λ k. boot_from 1 no_lines (take k texts)) (sym count) ∙ s.bad in
     record {
       some = later;
       within = omega arith;

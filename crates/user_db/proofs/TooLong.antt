@@ -30,7 +30,8 @@ end-grows prefix rest =
       | true ↦ λ test. let kept = end-kept prefix rest (ltb-true (end_of prefix) (length prefix) test) in omega (arith, kept)
       | false ↦ λ test.
           let all : end_of prefix ≡ length prefix = omega (arith, end-within prefix, ltb-false (end_of prefix) (length prefix) test) in
-          let passed : end_of (prefix ++ rest) ≡ length prefix + end_of rest = prefix_len-append _ prefix rest ∙ rw (eq-eqb (end_of prefix) (length prefix) all) refl in
+          let passed : end_of (prefix ++ rest) ≡ length prefix + end_of rest =
+          prefix_len-append _ prefix rest ∙ rw (eq-eqb (end_of prefix) (length prefix) all) refl in
           omega arith
     ] refl
 
@@ -45,8 +46,20 @@ first : (text : List ℕ) → 0 < length text → First text
 first text some =
     let p = end_of text in
     elim (ltb p (length text)) as (λ b. ltb p (length text) ≡ b → First text) [
-      | true ↦ λ test. record { line = take p text; others = lines (drop (p + 1) text); are = lines_more text p (ap (λ b. cond b (Some p) None) test); size = length-take-le p text (end-within text) }
-      | false ↦ λ test. record { line = text; others = lines []; are = lines_one text some (ap (λ b. cond b (Some p) None) test); size = omega (arith, end-within text, ltb-false p (length text) test) }
+      | true ↦
+          λ test. record {
+            line = take p text;
+            others = lines (drop (p + 1) text);
+            are = lines_more text p (ap (λ b. cond b (Some p) None) test);
+            size = length-take-le p text (end-within text);
+          }
+      | false ↦
+          λ test. record {
+            line = text;
+            others = lines [];
+            are = lines_one text some (ap (λ b. cond b (Some p) None) test);
+            size = omega (arith, end-within text, ltb-false p (length text) test);
+          }
     ] refl
 
 -- a line that is too long is bad
@@ -54,7 +67,9 @@ long-bad : (n : ℕ) (draft : Draft) (line : List ℕ) (others : List (List ℕ)
 unfolding boot_line_of
 long-bad n draft line others h =
     let bad : boot_line_of line ≡ None = rw (lt-leb (length line) 4096 h) refl in
-    let none : with_line_at n line draft ≡ None = elim (nat_le n 256) as (λ b. cond b (option_and_then (λ l. with_line l draft) (boot_line_of line)) None ≡ None) [ true ↦ ap (option_and_then (λ l. with_line l draft)) bad | false ↦ refl ] in
+    let none : with_line_at n line draft ≡ None =
+    elim (nat_le n 256) as (λ b. cond b (option_and_then (λ l. with_line l draft) (boot_line_of line)) None ≡ None)
+    [ true ↦ ap (option_and_then (λ l. with_line l draft)) bad | false ↦ refl ] in
     ap (λ o. unless_bad n o (λ d. boot_from (n + 1) d others)) none
 
 -- so is one behind the last that a text may have
@@ -114,7 +129,8 @@ bad-at (suc left) n draft prefix rest at long =
           bad-first n draft prefix rest (omega (arith, end-within prefix)) (λ text f h. long-bad n draft f.line f.others (omega (arith, f.size)))
       | false ↦ λ test.
           let within : end_of prefix ≤ 4096 = ltb-false 4096 (end_of prefix) test in
-          bad-next n draft prefix rest (omega arith) (λ d. bad-at left (n + 1) d (drop (end_of prefix + 1) prefix) rest (omega arith) (omega (arith, length-drop (end_of prefix + 1) prefix)))
+          bad-next n draft prefix rest (omega arith)
+          (λ d. bad-at left (n + 1) d (drop (end_of prefix + 1) prefix) rest (omega arith) (omega (arith, length-drop (end_of prefix + 1) prefix)))
     ] refl
 
 -- A text of which a prefix has more bytes than a boot text has at most is bad, and its first bad line

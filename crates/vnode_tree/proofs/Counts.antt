@@ -51,12 +51,18 @@ has_without entries n most long = record {
     | inl root ↦ absurd (other root.here)
     | inr below ↦
         let same : below.entry ≡ entry = let both : Some below.entry ≡ Some entry = sym below.at ∙ at in cc in
-        record { fuel = below.more; whole = below.above; up = subst (λ (e : Entry). path_up below.more entries e.dir ≡ Some below.above) same below.up; short = omega (arith, w.short, ap length below.whole, length-append below.above ((below.entry).name ∷ [])) }
+        record {
+          fuel = below.more;
+          whole = below.above;
+          up = subst (λ (e : Entry). path_up below.more entries e.dir ≡ Some below.above) same below.up;
+          short = omega (arith, w.short, ap length below.whole, length-append below.above ((below.entry).name ∷ []));
+        }
   ];
 }
 
 -- a path of a node is shorter than the number of nodes
-pub path_counts : (deep : ℕ) (entries : List (Option Entry)) (k n : ℕ) (p : List (List ℕ)) → length p ≡ deep → path_up k entries n ≡ Some p → length p < count_by is_some entries
+pub path_counts : (deep : ℕ) (entries : List (Option Entry)) (k n : ℕ) (p : List (List ℕ)) → length p ≡ deep → path_up k entries n ≡ Some p
+    → length p < count_by is_some entries
 path_counts zero entries k n p deep e = elim (path_is k entries n p e) [
   | inl root ↦ omega (arith, count_without entries n root.entry root.at, deep)
   | inr below ↦ omega (arith, count_without entries n below.entry below.at, deep)
@@ -65,8 +71,17 @@ path_counts (suc deep) entries k n p is e = elim (path_is k entries n p e) [
   | inl root ↦ absurd (omega (arith, ap length root.whole, is))
   | inr below ↦
       let size : length below.above ≡ deep = omega (arith, ap length below.whole, length-append below.above ((below.entry).name ∷ []), is) in
-      let long : (w : Within entries deep n) → ⊥ = λ w. let same : w.whole ≡ p = same_node_path w.fuel k entries n w.whole p w.up e in omega (arith, w.short, ap length same, is) in
+      let long : (w : Within entries deep n) → ⊥ =
+      λ w. let same : w.whole ≡ p = same_node_path w.fuel k entries n w.whole p w.up e in omega (arith, w.short, ap length same, is) in
       let here : Within entries deep (below.entry).dir = record { fuel = below.more; whole = below.above; up = below.up; short = omega (arith, size) } in
-      let up : path_up below.more (set entries n None) (below.entry).dir ≡ Some below.above = kept_path (Within entries deep) below.more entries (set entries n None) (below.entry).dir below.above (has_without entries n deep long) here below.up in
-      omega (arith, path_counts deep (set entries n None) below.more (below.entry).dir below.above size up, count_without entries n below.entry below.at, size, is)
+      let up : path_up below.more (set entries n None) (below.entry).dir ≡ Some below.above =
+      kept_path (Within entries deep) below.more entries (set entries n None) (below.entry).dir below.above (has_without entries n deep long) here below.up
+      in
+      omega (
+        arith,
+        path_counts deep (set entries n None) below.more (below.entry).dir below.above size up,
+        count_without entries n below.entry below.at,
+        size,
+        is,
+      )
 ]

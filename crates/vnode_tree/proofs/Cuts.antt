@@ -12,10 +12,13 @@ use Rattle.vnode_tree.proofs.Positions.{all_fail}
 use Rattle.vnode_tree.specs.Walks.{IsCut, is_step, step_of, steps_after, bytes_after}
 
 pub filter_one : (part : List ℕ) (rest : List (List ℕ)) → filter (λ p. not (is_skipped p)) (part ∷ rest) ≡ step_of part ++ filter (λ p. not (is_skipped p)) rest
-filter_one part rest = elim (is_skipped part) as (λ b. cond (not b) (part ∷ filter (λ p. not (is_skipped p)) rest) (filter (λ p. not (is_skipped p)) rest) ≡ cond b [] (part ∷ []) ++ filter (λ p. not (is_skipped p)) rest) [
-  | true ↦ refl
-  | false ↦ refl
-]
+filter_one part rest =
+    elim (is_skipped part) as
+    (λ b. cond (not b) (part ∷ filter (λ p. not (is_skipped p)) rest) (filter (λ p. not (is_skipped p)) rest)
+    ≡ cond b [] (part ∷ []) ++ filter (λ p. not (is_skipped p)) rest) [
+      | true ↦ refl
+      | false ↦ refl
+    ]
 
 -- bytes of which none is a slash
 all_plain : (bytes : List ℕ) → ((k : ℕ) → k < length bytes → is_slash (get_or bytes k 0) ≡ false) → list_all (λ b. not (is_slash b)) bytes ≡ true
@@ -37,13 +40,20 @@ cut_none path h =
           let all : length path ≤ p = ltb-false p (length path) test in
           slice_split_none is_slash path (λ k d below. fails_before_first is_slash path k d (omega arith))
     ] refl h in
-    record { parts = ap (filter (λ p. not (is_skipped p))) whole ∙ filter_one path []; shorter = omega arith; no_slash = all_plain path (λ k below. all_fail is_slash path k 0 h below) }
+    record {
+      parts = ap (filter (λ p. not (is_skipped p))) whole ∙ filter_one path [];
+      shorter = omega arith;
+      no_slash = all_plain path (λ k below. all_fail is_slash path k 0 h below);
+    }
 
 -- the first part stands before the first slash
-split_more : (path : List ℕ) (k : ℕ) → position is_slash path ≡ Some k → (k < length path) × (slice_split is_slash path ≡ take k path ∷ slice_split is_slash (drop (k + 1) path))
+split_more : (path : List ℕ) (k : ℕ) → position is_slash path ≡ Some k
+    → (k < length path) × (slice_split is_slash path ≡ take k path ∷ slice_split is_slash (drop (k + 1) path))
 split_more path k h =
     let p = position_or_len is_slash path in
-    elim (ltb p (length path)) as (λ b. ltb p (length path) ≡ b → cond b (Some p) None ≡ Some k → (k < length path) × (slice_split is_slash path ≡ take k path ∷ slice_split is_slash (drop (k + 1) path))) [
+    elim (ltb p (length path)) as
+    (λ b. ltb p (length path) ≡ b → cond b (Some p) None ≡ Some k
+    → (k < length path) × (slice_split is_slash path ≡ take k path ∷ slice_split is_slash (drop (k + 1) path))) [
       | true ↦ λ test some.
           let here : p ≡ k = cc in
           let inside : p < length path = ltb-true p (length path) test in
@@ -51,14 +61,26 @@ split_more path k h =
       | false ↦ λ test some. absurd cc
     ] refl h
 
-pub cut_some : (path part others rest : List ℕ) (k : ℕ) → position is_slash path ≡ Some k → part ≡ take k path → others ≡ drop k path → rest ≡ drop 1 others → IsCut path part (Some rest)
+pub cut_some : (path part others rest : List ℕ) (k : ℕ) → position is_slash path ≡ Some k → part ≡ take k path → others ≡ drop k path → rest ≡ drop 1 others
+    → IsCut path part (Some rest)
 unfolding steps
 cut_some path part others rest k h w o r =
     let more = split_more path k h in
     let rest_is : rest ≡ drop (k + 1) path = r ∙ ap (drop 1) o ∙ drop-drop 1 k path in
     record {
-      parts = ap (filter (λ p. not (is_skipped p))) more.1 ∙ filter_one (take k path) (slice_split is_slash (drop (k + 1) path)) ∙ ap (λ w. step_of w ++ filter (λ p. not (is_skipped p)) (slice_split is_slash (drop (k + 1) path))) (sym w) ∙ ap (λ xs. step_of part ++ filter (λ p. not (is_skipped p)) (slice_split is_slash xs)) (sym rest_is);
-      shorter = omega (arith, more.0, ap (λ (xs : List ℕ). length xs) rest_is, length-drop (k + 1) path, ap (λ (xs : List ℕ). length xs) w, length-take-le k path (omega (arith, more.0)));
+      parts =
+          ap (filter (λ p. not (is_skipped p))) more.1 ∙ filter_one (take k path) (slice_split is_slash (drop (k + 1) path))
+          ∙ ap (λ w. step_of w ++ filter (λ p. not (is_skipped p)) (slice_split is_slash (drop (k + 1) path))) (sym w)
+          ∙ ap (λ xs. step_of part ++ filter (λ p. not (is_skipped p)) (slice_split is_slash xs)) (sym rest_is);
+      shorter =
+          omega (
+            arith,
+            more.0,
+            ap (λ (xs : List ℕ). length xs) rest_is,
+            length-drop (k + 1) path,
+            ap (λ (xs : List ℕ). length xs) w,
+            length-take-le k path (omega (arith, more.0)),
+          );
       no_slash = ap (λ (xs : List ℕ). list_all (λ b. not (is_slash b)) xs) w ∙ all_plain (take k path) (λ i below.
           let size : length (take k path) ≡ k = length-take-le k path (omega (arith, more.0)) in
           ap is_slash (get_or-take k path i 0 (omega (arith, below, size))) ∙ before_slash path k h i (omega (arith, below, size)));
@@ -73,17 +95,24 @@ record Parted (path : List ℕ) : Type 0 where
 parted : (path : List ℕ) → Parted path
 parted path = elim (position is_slash path) as (λ o. position is_slash path ≡ o → Parted path) [
   | None ↦ λ none. record { part = path; rest = None; cut = cut_none path none }
-  | Some k ↦ λ some. record { part = take k path; rest = Some (drop 1 (drop k path)); cut = cut_some path (take k path) (drop k path) (drop 1 (drop k path)) k some refl refl refl }
+  | Some k ↦
+      λ some. record {
+        part = take k path;
+        rest = Some (drop 1 (drop k path));
+        cut = cut_some path (take k path) (drop k path) (drop 1 (drop k path)) k some refl refl refl;
+      }
 ] refl
 
 step_size : (part : List ℕ) → (length (step_of part) ≤ 1) × (length (step_of part) ≤ length part)
 step_size [] = (omega arith, omega arith)
-step_size (b ∷ part) = elim (is_skipped (b ∷ part)) as (λ t. (length (cond t [] ((b ∷ part) ∷ [])) ≤ 1) × (length (cond t [] ((b ∷ part) ∷ [])) ≤ length (b ∷ part))) [
-  | true ↦ (omega arith, omega arith)
-  | false ↦ (omega arith, omega arith)
-]
+step_size (b ∷ part) =
+    elim (is_skipped (b ∷ part)) as (λ t. (length (cond t [] ((b ∷ part) ∷ [])) ≤ 1) × (length (cond t [] ((b ∷ part) ∷ [])) ≤ length (b ∷ part))) [
+      | true ↦ (omega arith, omega arith)
+      | false ↦ (omega arith, omega arith)
+    ]
 
-sizes : (path part : List ℕ) (rest : Option (List ℕ)) → IsCut path part rest → (length (steps path) ≡ length (step_of part) + length (steps_after rest)) × (bytes_after rest + length part ≡ length path)
+sizes : (path part : List ℕ) (rest : Option (List ℕ)) → IsCut path part rest
+    → (length (steps path) ≡ length (step_of part) + length (steps_after rest)) × (bytes_after rest + length part ≡ length path)
 sizes path part rest cut = (ap (λ (xs : List (List ℕ)). length xs) cut.parts ∙ length-append (step_of part) (steps_after rest), cut.shorter)
 
 -- each part but the first has a slash before it

@@ -8,7 +8,8 @@ use Rattle.vnode_tree.specs.Kept.{IsKept}
 use Rattle.vnode_tree.proofs.Tables.{has_path, listed}
 
 -- a node that is live has an entry
-pub live_entry : (entries : List (Option Entry)) (nodes : List (Option NodeAt)) (n : ℕ) → nodes_of entries ≡ nodes → IsLive nodes n → IsSome (entry_at entries n)
+pub live_entry : (entries : List (Option Entry)) (nodes : List (Option NodeAt)) (n : ℕ) → nodes_of entries ≡ nodes → IsLive nodes n
+    → IsSome (entry_at entries n)
 live_entry entries nodes n view live =
     elim (node_at nodes n) as (λ o. node_at nodes n ≡ o → IsSome o → IsSome (entry_at entries n)) [
       | None ↦ λ at some. absurd (let no : false ≡ true = some in cc)
@@ -18,6 +19,7 @@ live_entry entries nodes n view live =
     ] refl live
 
 -- what a node is
-pub record_is : (entries : List (Option Entry)) (nodes : List (Option NodeAt)) (n : ℕ) (entry : Entry) → nodes_of entries ≡ nodes → IsKept entries → entry_at entries n ≡ Some entry → record_of nodes n ≡ Some (record_in entry)
+pub record_is : (entries : List (Option Entry)) (nodes : List (Option NodeAt)) (n : ℕ) (entry : Entry) → nodes_of entries ≡ nodes → IsKept entries
+    → entry_at entries n ≡ Some entry → record_of nodes n ≡ Some (record_in entry)
 record_is entries nodes n entry view kept at =
     ap (λ ns. record_of ns n) (sym view) ∙ ap (option_map (λ (x : NodeAt). x.node)) (has_path entries n entry kept at).itself

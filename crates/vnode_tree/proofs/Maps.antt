@@ -14,17 +14,22 @@ all_some nodes = map (λ n. Some n) nodes
 
 rest_free : (n : NodeAt) (nodes : List NodeAt) (path : List (List ℕ)) → tree_of (all_some (n ∷ nodes)) path ≡ None → tree_of (all_some nodes) path ≡ None
 unfolding tree_of
-rest_free n nodes path free = elim (same_path path n.path) as (λ t. cond t (Some n.node) (tree_of (all_some nodes) path) ≡ None → tree_of (all_some nodes) path ≡ None) [
-  | true ↦ λ e. absurd cc
-  | false ↦ λ e. e
-] free
+rest_free n nodes path free =
+    elim (same_path path n.path) as (λ t. cond t (Some n.node) (tree_of (all_some nodes) path) ≡ None → tree_of (all_some nodes) path ≡ None) [
+      | true ↦ λ e. absurd cc
+      | false ↦ λ e. e
+    ] free
 
 -- one node more, at a path that was free
-more_there : (nodes : List NodeAt) (x : NodeAt) (other : List (List ℕ)) → tree_of (all_some nodes) x.path ≡ None → tree_of (all_some (nodes ++ x ∷ [])) other ≡ cond (same_path other x.path) (Some x.node) (tree_of (all_some nodes) other)
+more_there : (nodes : List NodeAt) (x : NodeAt) (other : List (List ℕ)) → tree_of (all_some nodes) x.path ≡ None
+    → tree_of (all_some (nodes ++ x ∷ [])) other ≡ cond (same_path other x.path) (Some x.node) (tree_of (all_some nodes) other)
 unfolding tree_of
 more_there [] x other free = refl
 more_there (n ∷ nodes) x other free =
-    elim (same_path other n.path) as (λ t. same_path other n.path ≡ t → cond t (Some n.node) (tree_of (all_some (nodes ++ x ∷ [])) other) ≡ cond (same_path other x.path) (Some x.node) (cond t (Some n.node) (tree_of (all_some nodes) other))) [
+    elim (same_path other n.path) as
+    (λ t. same_path other n.path ≡ t
+    → cond t (Some n.node) (tree_of (all_some (nodes ++ x ∷ [])) other)
+    ≡ cond (same_path other x.path) (Some x.node) (cond t (Some n.node) (tree_of (all_some nodes) other))) [
       | true ↦ λ t. elim (same_path other x.path) as (λ u. same_path other x.path ≡ u → Some n.node ≡ cond u (Some x.node) (Some n.node)) [
         | true ↦ λ u.
             let same : x.path ≡ n.path = sym (path_true other x.path u) ∙ path_true other n.path t in
@@ -38,14 +43,20 @@ more_there (n ∷ nodes) x other free =
 
 space_more : (nodes : List NodeAt) (x : NodeAt) → space_of (all_some (nodes ++ x ∷ [])) ≡ space_of (all_some nodes) + length x.node.contents
 space_more [] x = omega (arith, sum_by-cons size_of (Some x) [])
-space_more (n ∷ nodes) x = omega (arith, sum_by-cons size_of (Some n) (all_some (nodes ++ x ∷ [])), sum_by-cons size_of (Some n) (all_some nodes), space_more nodes x)
+space_more (n ∷ nodes) x =
+    omega (arith, sum_by-cons size_of (Some n) (all_some (nodes ++ x ∷ [])), sum_by-cons size_of (Some n) (all_some nodes), space_more nodes x)
 
 -- a table with one node more
-pub map_grows : (old new : List (Option NodeAt)) (nodes : List NodeAt) (x : NodeAt) → IsMapOf old nodes → tree_of old x.path ≡ None → ChangesAt x.path (Some x.node) old new → count_of new ≡ count_of old + 1 → space_of new ≡ space_of old + length x.node.contents → IsMapOf new (nodes ++ x ∷ [])
+pub map_grows : (old new : List (Option NodeAt)) (nodes : List NodeAt) (x : NodeAt) → IsMapOf old nodes → tree_of old x.path ≡ None
+    → ChangesAt x.path (Some x.node) old new → count_of new ≡ count_of old + 1 → space_of new ≡ space_of old + length x.node.contents
+    → IsMapOf new (nodes ++ x ∷ [])
 map_grows old new nodes x m free changes count space =
     let free_there : tree_of (all_some nodes) x.path ≡ None = ap (λ (t : Tree). t x.path) (sym m.there) ∙ free in
     record {
-      there = fun_ext (λ other. changes.only other ∙ ap (λ (t : Tree). cond (same_path other x.path) (Some x.node) (t other)) m.there ∙ sym (more_there nodes x other free_there));
+      there =
+          fun_ext
+          (λ other. changes.only other ∙ ap (λ (t : Tree). cond (same_path other x.path) (Some x.node) (t other)) m.there
+          ∙ sym (more_there nodes x other free_there));
       count = omega (arith, count, m.count, length-append nodes (x ∷ []));
       space = omega (arith, space, m.space, space_more nodes x);
     }
@@ -58,7 +69,9 @@ is_nothing : {X : Type 0} (x : Option X) → is_none x ≡ true → x ≡ None
 is_nothing None e = refl
 is_nothing (Some x) e = absurd cc
 
-can_add_parts : (nodes : List (Option NodeAt)) (dir : ℕ) (name : List ℕ) (size : ℕ) → IsTrue (can_add nodes dir name size) → (is_dir_record (record_of nodes dir) ≡ true) × (is_none (tree_of nodes (path_of nodes dir ++ name ∷ [])) ≡ true) × (is_name name ≡ true) × (nat_le (length name) 255 ≡ true) × (nat_lt (count_of nodes) 1024 ≡ true) × (nat_le (space_of nodes + size) 4194304 ≡ true)
+can_add_parts : (nodes : List (Option NodeAt)) (dir : ℕ) (name : List ℕ) (size : ℕ) → IsTrue (can_add nodes dir name size)
+    → (is_dir_record (record_of nodes dir) ≡ true) × (is_none (tree_of nodes (path_of nodes dir ++ name ∷ [])) ≡ true) × (is_name name ≡ true)
+    × (nat_le (length name) 255 ≡ true) × (nat_lt (count_of nodes) 1024 ≡ true) × (nat_le (space_of nodes + size) 4194304 ≡ true)
 can_add_parts nodes dir name size e =
     let one = both_true _ (nat_le (space_of nodes + size) 4194304) e in
     let two = both_true _ (nat_lt (count_of nodes) 1024) one.0 in
@@ -67,10 +80,12 @@ can_add_parts nodes dir name size e =
     let five = both_true (is_dir_record (record_of nodes dir)) (is_none (tree_of nodes (path_of nodes dir ++ name ∷ []))) four.0 in
     (five.0, five.1, four.1, three.1, two.1, one.1)
 
-pub can_add_dir : (nodes : List (Option NodeAt)) (dir : ℕ) (name : List ℕ) (size : ℕ) → IsTrue (can_add nodes dir name size) → is_dir_record (record_of nodes dir) ≡ true
+pub can_add_dir : (nodes : List (Option NodeAt)) (dir : ℕ) (name : List ℕ) (size : ℕ) → IsTrue (can_add nodes dir name size)
+    → is_dir_record (record_of nodes dir) ≡ true
 can_add_dir nodes dir name size e = (can_add_parts nodes dir name size e).0
 
-pub can_add_absent : (nodes : List (Option NodeAt)) (dir : ℕ) (name : List ℕ) (size : ℕ) → IsTrue (can_add nodes dir name size) → tree_of nodes (path_of nodes dir ++ name ∷ []) ≡ None
+pub can_add_absent : (nodes : List (Option NodeAt)) (dir : ℕ) (name : List ℕ) (size : ℕ) → IsTrue (can_add nodes dir name size)
+    → tree_of nodes (path_of nodes dir ++ name ∷ []) ≡ None
 can_add_absent nodes dir name size e = is_nothing (tree_of nodes (path_of nodes dir ++ name ∷ [])) (can_add_parts nodes dir name size e).1
 
 pub can_add_named : (nodes : List (Option NodeAt)) (dir : ℕ) (name : List ℕ) (size : ℕ) → IsTrue (can_add nodes dir name size) → is_name name ≡ true
@@ -94,7 +109,8 @@ can_join nodes parent name size =
     && nat_lt (length nodes) 1024
     && nat_le (space_of (all_some nodes) + size) 4194304
 
-pub can_add_is : (table : List (Option NodeAt)) (nodes : List NodeAt) (parent : NodeAt) (dir : ℕ) (name : List ℕ) (size : ℕ) → IsMapOf table nodes → node_at table dir ≡ Some parent → can_join nodes parent name size ≡ true → IsTrue (can_add table dir name size)
+pub can_add_is : (table : List (Option NodeAt)) (nodes : List NodeAt) (parent : NodeAt) (dir : ℕ) (name : List ℕ) (size : ℕ) → IsMapOf table nodes
+    → node_at table dir ≡ Some parent → can_join nodes parent name size ≡ true → IsTrue (can_add table dir name size)
 can_add_is table nodes parent dir name size m at e = rw (at, m.there, m.count, m.space) e
 
 -- a node that was live stays as it was
@@ -106,11 +122,13 @@ pub record Stage (table : List (Option NodeAt)) (nodes : List NodeAt) : Type 0 w
   pub map : IsMapOf table nodes
   pub root : node_at table 0 ≡ Some root_node
 
-pub next_stage : (old new : List (Option NodeAt)) (nodes : List NodeAt) (x : NodeAt) → Stage old nodes → ((ns : List NodeAt) → IsMapOf old ns → IsMapOf new (ns ++ x ∷ [])) → Keeps old new → Stage new (nodes ++ x ∷ [])
+pub next_stage : (old new : List (Option NodeAt)) (nodes : List NodeAt) (x : NodeAt) → Stage old nodes
+    → ((ns : List NodeAt) → IsMapOf old ns → IsMapOf new (ns ++ x ∷ [])) → Keeps old new → Stage new (nodes ++ x ∷ [])
 next_stage old new nodes x s grows keeps = record { map = grows nodes s.map; root = held old new 0 root_node keeps s.root }
 
 -- a directory may be added to the root of such a table
-pub dir_fits : (table : List (Option NodeAt)) (nodes : List NodeAt) (name : List ℕ) → Stage table nodes → can_join nodes root_node name 0 ≡ true → IsTrue (can_add table 0 name 0)
+pub dir_fits : (table : List (Option NodeAt)) (nodes : List NodeAt) (name : List ℕ) → Stage table nodes → can_join nodes root_node name 0 ≡ true
+    → IsTrue (can_add table 0 name 0)
 dir_fits table nodes name s e = can_add_is table nodes root_node 0 name 0 s.map s.root e
 
 pub keeps_on : (old mid new : List (Option NodeAt)) → Keeps old mid → Keeps mid new → Keeps old new

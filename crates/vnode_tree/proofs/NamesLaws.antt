@@ -47,15 +47,18 @@ in_rest z (Some x) xs i = inr i
 
 -- ---- the names below a path lead to nodes
 
-there_from_in : (nodes : List (Option NodeAt)) (dir : List (List ℕ)) (name : List ℕ) → In name (names_below (paths_of nodes) dir) → IsSome (tree_of nodes (dir ++ name ∷ []))
+there_from_in : (nodes : List (Option NodeAt)) (dir : List (List ℕ)) (name : List ℕ) → In name (names_below (paths_of nodes) dir)
+    → IsSome (tree_of nodes (dir ++ name ∷ []))
 unfolding tree_of
 there_from_in [] dir name i = absurd i
 there_from_in (None ∷ nodes) dir name i = there_from_in nodes dir name i
 there_from_in (Some a ∷ nodes) dir name i =
-    elim (same_path (dir ++ name ∷ []) a.path) as (λ t. same_path (dir ++ name ∷ []) a.path ≡ t → IsSome (cond t (Some a.node) (tree_of nodes (dir ++ name ∷ [])))) [
+    elim (same_path (dir ++ name ∷ []) a.path) as
+    (λ t. same_path (dir ++ name ∷ []) a.path ≡ t → IsSome (cond t (Some a.node) (tree_of nodes (dir ++ name ∷ [])))) [
       | true ↦ λ t. refl
       | false ↦ λ t. there_from_in nodes dir name (
-          elim (name_after dir a.path) as (λ o. name_after dir a.path ≡ o → In name (cons_option o (names_below (paths_of nodes) dir)) → In name (names_below (paths_of nodes) dir)) [
+          elim (name_after dir a.path) as
+          (λ o. name_after dir a.path ≡ o → In name (cons_option o (names_below (paths_of nodes) dir)) → In name (names_below (paths_of nodes) dir)) [
             | None ↦ λ e i. i
             | Some x ↦ λ e i. elim i [
               | inl here ↦
@@ -66,12 +69,15 @@ there_from_in (Some a ∷ nodes) dir name i =
           ] refl i)
     ] refl
 
-in_from_there : (nodes : List (Option NodeAt)) (dir : List (List ℕ)) (name : List ℕ) → IsSome (tree_of nodes (dir ++ name ∷ [])) → In name (names_below (paths_of nodes) dir)
+in_from_there : (nodes : List (Option NodeAt)) (dir : List (List ℕ)) (name : List ℕ) → IsSome (tree_of nodes (dir ++ name ∷ []))
+    → In name (names_below (paths_of nodes) dir)
 unfolding tree_of
 in_from_there [] dir name some = absurd (let no : false ≡ true = some in cc)
 in_from_there (None ∷ nodes) dir name some = in_from_there nodes dir name some
 in_from_there (Some a ∷ nodes) dir name some =
-    elim (same_path (dir ++ name ∷ []) a.path) as (λ t. same_path (dir ++ name ∷ []) a.path ≡ t → IsSome (cond t (Some a.node) (tree_of nodes (dir ++ name ∷ []))) → In name (cons_option (name_after dir a.path) (names_below (paths_of nodes) dir))) [
+    elim (same_path (dir ++ name ∷ []) a.path) as
+    (λ t. same_path (dir ++ name ∷ []) a.path ≡ t → IsSome (cond t (Some a.node) (tree_of nodes (dir ++ name ∷ [])))
+    → In name (cons_option (name_after dir a.path) (names_below (paths_of nodes) dir))) [
       | true ↦ λ t some.
           let is : name_after dir a.path ≡ Some name = ap (name_after dir) (sym (path_true (dir ++ name ∷ []) a.path t)) ∙ after_of dir name in
           rw is (inl refl)
@@ -83,7 +89,9 @@ unfolding names_in
 are_below nodes dir name =
     let names : List (List ℕ) = names_below (paths_of nodes) (path_of nodes dir) in
     let moved : IsPermutation names (in_order names) = in_order_permutes names in (
-      λ has. let c = Contains-permutation (in_order names) names name (IsPermutation-sym names (in_order names) moved) has in there_from_in nodes (path_of nodes dir) name (in_from_contains name names c.0 c.1 c.2),
+      λ has. let c =
+          Contains-permutation (in_order names) names name (IsPermutation-sym names (in_order names) moved) has in there_from_in nodes (path_of nodes dir) name
+          (in_from_contains name names c.0 c.1 c.2),
       λ some. Contains-permutation names (in_order names) name moved (contains_from_in name names (in_from_there nodes (path_of nodes dir) name some)),
     )
 
@@ -98,7 +106,8 @@ once_below (Some a ∷ nodes) dir z all =
       | Some x ↦ λ e. once_with nodes dir z a x all e (once_below nodes dir z (tail_apart (Some a) nodes all))
     ] refl
   where
-    found_twice : (nodes : List (Option NodeAt)) (dir : List (List ℕ)) (z : List ℕ) (a : NodeAt) → ArePathsApart (Some a ∷ nodes) → a.path ≡ dir ++ z ∷ [] → IsSome (tree_of nodes (dir ++ z ∷ [])) → ⊥
+    found_twice : (nodes : List (Option NodeAt)) (dir : List (List ℕ)) (z : List ℕ) (a : NodeAt) → ArePathsApart (Some a ∷ nodes) → a.path ≡ dir ++ z ∷ []
+        → IsSome (tree_of nodes (dir ++ z ∷ [])) → ⊥
     found_twice nodes dir z a all whole some =
         elim (tree_of nodes (dir ++ z ∷ [])) as (λ o. tree_of nodes (dir ++ z ∷ []) ≡ o → IsSome o → ⊥) [
           | None ↦ λ e some. absurd (let no : false ≡ true = some in cc)
@@ -108,7 +117,8 @@ once_below (Some a ∷ nodes) dir z all =
               absurd (omega arith)
         ] refl some
 
-    once_with : (nodes : List (Option NodeAt)) (dir : List (List ℕ)) (z : List ℕ) (a : NodeAt) (x : List ℕ) → ArePathsApart (Some a ∷ nodes) → name_after dir a.path ≡ Some x → times z (names_below (paths_of nodes) dir) ≤ 1 → times z (x ∷ names_below (paths_of nodes) dir) ≤ 1
+    once_with : (nodes : List (Option NodeAt)) (dir : List (List ℕ)) (z : List ℕ) (a : NodeAt) (x : List ℕ) → ArePathsApart (Some a ∷ nodes)
+        → name_after dir a.path ≡ Some x → times z (names_below (paths_of nodes) dir) ≤ 1 → times z (x ∷ names_below (paths_of nodes) dir) ≤ 1
     once_with nodes dir z a x all e rest = elim (cases_Bool (bytes_eq z x)) [
       | inl same ↦ elim (cases_lt 0 (times z (names_below (paths_of nodes) dir))) [
         | inl more ↦
@@ -123,7 +133,8 @@ pub they_rise : (nodes : List (Option NodeAt)) (dir : ℕ) → ArePathsApart nod
 unfolding names_in
 they_rise nodes dir all =
     let names : List (List ℕ) = names_below (paths_of nodes) (path_of nodes dir) in
-    ascends_rises (in_order names) (in_order_ascends names) (λ z. omega (arith, times_permutation z names (in_order names) (in_order_permutes names), once_below nodes (path_of nodes dir) z all))
+    ascends_rises (in_order names) (in_order_ascends names)
+    (λ z. omega (arith, times_permutation z names (in_order names) (in_order_permutes names), once_below nodes (path_of nodes dir) z all))
 
 -- ---- and no other list does both
 
@@ -142,7 +153,8 @@ at_least z xs ys has once = elim (cases_lt 0 (times z xs)) [
   | inr none ↦ omega arith
 ]
 
-pub only_names : (nodes : List (Option NodeAt)) (dir : ℕ) (names : List (List ℕ)) → ArePathsApart nodes → AreBelow nodes (path_of nodes dir) names → Rise names → names ≡ names_in nodes dir
+pub only_names : (nodes : List (Option NodeAt)) (dir : ℕ) (names : List (List ℕ)) → ArePathsApart nodes → AreBelow nodes (path_of nodes dir) names → Rise names
+    → names ≡ names_in nodes dir
 only_names nodes dir names all below up =
     let theirs = they_rise nodes dir all in
     let whole : AreBelow nodes (path_of nodes dir) (names_in nodes dir) = are_below nodes dir in
@@ -160,23 +172,30 @@ it_fits names e = ltb-false 4096 (length (join_names names)) (not-true (nat_lt 4
 too_long : (names : List (List ℕ)) → fits names ≡ false → 4096 < length (join_names names)
 too_long names e = ltb-true 4096 (length (join_names names)) (not-false (nat_lt 4096 (length (join_names names))) e)
 
-most_from : (names : List (List ℕ)) (left count : ℕ) → count + left ≡ length names → fits (take count names) ≡ true → IsMostOf names (join_names (most_that_fit (take count names) (drop count names)))
+most_from : (names : List (List ℕ)) (left count : ℕ) → count + left ≡ length names → fits (take count names) ≡ true
+    → IsMostOf names (join_names (most_that_fit (take count names) (drop count names)))
 unfolding most_that_fit
 most_from names zero count all fit =
-    rw (drop_all count names (omega (arith, all))) (record { count = count; within = omega (arith, all); whole = refl; fit = it_fits (take count names) fit; most = λ below. absurd (omega (arith, all)) })
+    rw (drop_all count names (omega (arith, all)))
+    (record { count = count; within = omega (arith, all); whole = refl; fit = it_fits (take count names) fit; most = λ below. absurd (omega (arith, all)) })
 most_from names (suc left) count all fit =
     let below : count < length names = omega (arith, all) in
     let more : take (suc count) names ≡ take count names ++ get_or names count [] ∷ [] = take-suc names count [] below in
     elim (cases_Bool (fits (take count names ++ get_or names count [] ∷ []))) [
       | inl fit_too ↦
           let step : most_that_fit (take count names) (drop count names) ≡ most_that_fit (take (suc count) names) (drop (suc count) names) =
-          next_is names count below ∙ ap (λ b. cond b (most_that_fit (take count names ++ get_or names count [] ∷ []) (drop (suc count) names)) (take count names)) fit_too ∙ ap (λ l. most_that_fit l (drop (suc count) names)) (sym more) in
+          next_is names count below
+          ∙ ap (λ b. cond b (most_that_fit (take count names ++ get_or names count [] ∷ []) (drop (suc count) names)) (take count names)) fit_too
+          ∙ ap (λ l. most_that_fit l (drop (suc count) names)) (sym more) in
           subst (λ l. IsMostOf names (join_names l)) (sym step) (most_from names left (suc count) (omega (arith, all)) (ap fits more ∙ fit_too))
       | inr full ↦
           let step : most_that_fit (take count names) (drop count names) ≡ take count names =
-          next_is names count below ∙ ap (λ b. cond b (most_that_fit (take count names ++ get_or names count [] ∷ []) (drop (suc count) names)) (take count names)) full in
-          let over : 4096 < length (join_names (take (count + 1) names)) = rw (add-one, more) (too_long (take count names ++ get_or names count [] ∷ []) full) in
-          subst (λ l. IsMostOf names (join_names l)) (sym step) (record { count = count; within = omega arith; whole = refl; fit = it_fits (take count names) fit; most = λ below. over })
+          next_is names count below
+          ∙ ap (λ b. cond b (most_that_fit (take count names ++ get_or names count [] ∷ []) (drop (suc count) names)) (take count names)) full in
+          let over : 4096 < length (join_names (take (count + 1) names)) =
+          rw (add-one, more) (too_long (take count names ++ get_or names count [] ∷ []) full) in
+          subst (λ l. IsMostOf names (join_names l)) (sym step)
+          (record { count = count; within = omega arith; whole = refl; fit = it_fits (take count names) fit; most = λ below. over })
     ]
 
 pub most_of : (names : List (List ℕ)) (from : ℕ) → IsMostOf (drop from names) (names_text names from)

@@ -93,7 +93,8 @@ walk_leads tree here (name ∷ names) all =
     ∙ walk_leads tree (here ++ name ∷ []) names all.1
     ∙ ap found (grouped here name names)
 
-leads_further : (tree : Tree) (here names : List (List ℕ)) (name : List ℕ) → LeadOn tree here names → Leads tree (here ++ names) name → LeadOn tree here (names ++ name ∷ [])
+leads_further : (tree : Tree) (here names : List (List ℕ)) (name : List ℕ) → LeadOn tree here names → Leads tree (here ++ names) name
+    → LeadOn tree here (names ++ name ∷ [])
 leads_further tree here [] name all last = (subst (λ (h : List (List ℕ)). Leads tree h name) (append-nil here) last, tt)
 leads_further tree here (next ∷ names) name all last =
     (all.0, leads_further tree (here ++ next ∷ []) names name all.1 (subst (λ (h : List (List ℕ)). Leads tree h name) (sym (grouped here next names)) last))
@@ -105,13 +106,16 @@ all_proper tree here (name ∷ names) all = ((all.0).proper, all_proper tree (he
 -- ---- a node's path
 
 -- what is at the path of a node
-node_there : (entries : List (Option Entry)) (k n : ℕ) (entry : Entry) (path : List (List ℕ)) → IsKept entries → entry_at entries n ≡ Some entry → k ≤ length entries → path_up k entries n ≡ Some path → tree_of (nodes_of entries) path ≡ Some (record_in entry)
+node_there : (entries : List (Option Entry)) (k n : ℕ) (entry : Entry) (path : List (List ℕ)) → IsKept entries → entry_at entries n ≡ Some entry
+    → k ≤ length entries → path_up k entries n ≡ Some path → tree_of (nodes_of entries) path ≡ Some (record_in entry)
 node_there entries k n entry path kept at fuel up =
     let there = has_path entries n entry kept at in
     let same : path ≡ there.path = let both : Some path ≡ Some there.path = sym (enough_fuel (length entries) k entries n path fuel up) ∙ there.up in cc in
-    ap (tree_of (nodes_of entries)) same ∙ at_its_path (nodes_of entries) n (record { path = there.path; node = record_in entry }) (paths_apart entries kept) there.itself
+    ap (tree_of (nodes_of entries)) same
+    ∙ at_its_path (nodes_of entries) n (record { path = there.path; node = record_in entry }) (paths_apart entries kept) there.itself
 
-leads_to : (k : ℕ) (entries : List (Option Entry)) (n : ℕ) (path : List (List ℕ)) → IsKept entries → k ≤ length entries → path_up k entries n ≡ Some path → LeadOn (tree_of (nodes_of entries)) [] path
+leads_to : (k : ℕ) (entries : List (Option Entry)) (n : ℕ) (path : List (List ℕ)) → IsKept entries → k ≤ length entries → path_up k entries n ≡ Some path
+    → LeadOn (tree_of (nodes_of entries)) [] path
 unfolding path_up
 leads_to zero entries n path kept fuel up = absurd (let no : None ≡ Some path = up in cc)
 leads_to (suc k) entries n path kept fuel up = elim (path_is (suc k) entries n path up) [
@@ -119,24 +123,32 @@ leads_to (suc k) entries n path kept fuel up = elim (path_is (suc k) entries n p
   | inr below ↦
       let more_is : k ≡ below.more = omega (arith, below.enough) in
       let dir = kept.above n below.entry below.at below.other in
-      let above_up : path_up k entries (below.entry).dir ≡ Some below.above = subst (λ (m : ℕ). path_up m entries (below.entry).dir ≡ Some below.above) (sym more_is) below.up in
-      let above_there : tree_of (nodes_of entries) below.above ≡ Some (record_in dir.entry) = node_there entries k (below.entry).dir dir.entry below.above kept dir.here (omega (arith, fuel)) above_up in
+      let above_up : path_up k entries (below.entry).dir ≡ Some below.above =
+      subst (λ (m : ℕ). path_up m entries (below.entry).dir ≡ Some below.above) (sym more_is) below.up in
+      let above_there : tree_of (nodes_of entries) below.above ≡ Some (record_in dir.entry) =
+      node_there entries k (below.entry).dir dir.entry below.above kept dir.here (omega (arith, fuel)) above_up in
       let here_there : tree_of (nodes_of entries) path ≡ Some (record_in below.entry) = node_there entries (suc k) n below.entry path kept below.at fuel up in
       let last : Leads (tree_of (nodes_of entries)) ([] ++ below.above) (below.entry).name = record {
         proper = kept.names n below.entry below.at below.other;
         directory = ap is_dir_record above_there ∙ dir.directory;
         there = ap (λ (p : List (List ℕ)). is_some (tree_of (nodes_of entries) p)) (sym below.whole) ∙ ap is_some here_there;
       } in
-      subst (LeadOn (tree_of (nodes_of entries)) []) (sym below.whole) (leads_further (tree_of (nodes_of entries)) [] below.above (below.entry).name (leads_to k entries (below.entry).dir below.above kept (omega (arith, fuel)) above_up) last)
+      subst (LeadOn (tree_of (nodes_of entries)) []) (sym below.whole)
+      (leads_further (tree_of (nodes_of entries)) [] below.above (below.entry).name
+      (leads_to k entries (below.entry).dir below.above kept (omega (arith, fuel)) above_up) last)
 ]
 
-pub finds_itself : (entries : List (Option Entry)) (nodes : List (Option NodeAt)) (n : ℕ) (here : List (List ℕ)) → nodes_of entries ≡ nodes → IsKept entries → IsLive nodes n → length (path_text (path_of nodes n)) ≤ 1023 → (walk (tree_of nodes) here (path_text (path_of nodes n))).end ≡ found (path_of nodes n)
+pub finds_itself : (entries : List (Option Entry)) (nodes : List (Option NodeAt)) (n : ℕ) (here : List (List ℕ)) → nodes_of entries ≡ nodes → IsKept entries
+    → IsLive nodes n → length (path_text (path_of nodes n)) ≤ 1023 → (walk (tree_of nodes) here (path_text (path_of nodes n))).end ≡ found (path_of nodes n)
 finds_itself entries nodes n here view kept live short =
     let entry = some_entry (entry_at entries n) (live_entry entries nodes n view live) in
     let there = has_path entries n entry.0 kept entry.1 in
     let path_here : path_of nodes n ≡ there.path = ap (λ (ns : List (Option NodeAt)). path_of ns n) (sym view) ∙ ap path_in there.itself in
     let leads : LeadOn (tree_of nodes) [] (path_of nodes n) =
-    subst (LeadOn (tree_of nodes) []) (sym path_here) (subst (λ (ns : List (Option NodeAt)). LeadOn (tree_of ns) [] there.path) view (leads_to (length entries) entries n there.path kept (omega arith) there.up)) in
+    subst (LeadOn (tree_of nodes) []) (sym path_here)
+    (subst (λ (ns : List (Option NodeAt)). LeadOn (tree_of ns) [] there.path) view
+    (leads_to (length entries) entries n there.path kept (omega arith) there.up)) in
     ap (λ w. w.end) (walk_whole (tree_of nodes) here (path_text (path_of nodes n)) short (ne_eqb (length (path_text (path_of nodes n))) 0 (omega arith)))
-    ∙ ap (λ (ps : List (List ℕ)). (walk_from (tree_of nodes) [] ps).end) (steps_of_text (path_of nodes n) (all_proper (tree_of nodes) [] (path_of nodes n) leads))
+    ∙ ap (λ (ps : List (List ℕ)). (walk_from (tree_of nodes) [] ps).end)
+    (steps_of_text (path_of nodes n) (all_proper (tree_of nodes) [] (path_of nodes n) leads))
     ∙ walk_leads (tree_of nodes) [] (path_of nodes n) leads

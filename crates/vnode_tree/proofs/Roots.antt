@@ -60,11 +60,15 @@ root_kept entries root size t is = record {
   names = λ n e at other. absurd (other (only_root entries root n e t at).0);
   above = λ n e at other. absurd (other (only_root entries root n e t at).0);
   paths = λ n live. elim (cases_eq n 0) [
-    | inl here ↦ subst (λ o. IsSome o) (sym (ap (path_up (length entries) entries) here ∙ subst (λ k. path_up k entries 0 ≡ Some []) (sym size) (root_path 1023 entries root t.first))) refl
+    | inl here ↦
+        subst (λ o. IsSome o)
+        (sym (ap (path_up (length entries) entries) here ∙ subst (λ k. path_up k entries 0 ≡ Some []) (sym size) (root_path 1023 entries root t.first))) refl
     | inr other ↦ absurd (let no : is_some (entry_at entries n) ≡ false = ap is_some (t.others n other) in cc)
   ];
   apart = λ n m e f at there dir name. (only_root entries root n e t at).0 ∙ sym (only_root entries root m f t there).0;
-  kinds = λ n e at. let one = (only_root entries root n e t at).1 in subst (λ (x : Entry). x.attrs.is_dir ≡ is_dir x.kind) one (is.is_dir ∙ sym (ap is_dir is.kind));
+  kinds =
+      λ n e at. let one = (only_root entries root n e t at).1 in subst (λ (x : Entry). x.attrs.is_dir ≡ is_dir x.kind) one (is.is_dir
+      ∙ sym (ap is_dir is.kind));
   space = omega (
     arith,
     sum_zero size_in entries (λ k. elim (cases_eq k 0) [
@@ -75,7 +79,8 @@ root_kept entries root size t is = record {
 }
 
 -- the node of the root
-pub root_named : (entries : List (Option Entry)) (root : Entry) → length entries ≡ 1024 → IsRootTable entries root → IsRoot root → node_at (nodes_of entries) 0 ≡ Some (record { path = []; node = record_in root })
+pub root_named : (entries : List (Option Entry)) (root : Entry) → length entries ≡ 1024 → IsRootTable entries root → IsRoot root
+    → node_at (nodes_of entries) 0 ≡ Some (record { path = []; node = record_in root })
 root_named entries root size t is =
     let kept = root_kept entries root size t is in
     let there = has_path entries 0 root kept t.first in
@@ -83,15 +88,18 @@ root_named entries root size t is =
     let same : there.path ≡ [] = let both : Some there.path ≡ Some [] = sym there.up ∙ up in cc in
     there.itself ∙ ap (λ (p : List (List ℕ)). Some (record { path = p; node = record_in root })) same
 
-nothing_else : (entries : List (Option Entry)) (root : Entry) (n : ℕ) (node : NodeAt) → length entries ≡ 1024 → IsRootTable entries root → IsRoot root → node_at (nodes_of entries) n ≡ Some node → (n ≡ 0) × (node.path ≡ [])
+nothing_else : (entries : List (Option Entry)) (root : Entry) (n : ℕ) (node : NodeAt) → length entries ≡ 1024 → IsRootTable entries root → IsRoot root
+    → node_at (nodes_of entries) n ≡ Some node → (n ≡ 0) × (node.path ≡ [])
 nothing_else entries root n node size t is at =
     let found = listed entries n node at in
     let here = (only_root entries root n found.entry t found.at).0 in
-    let both : Some node ≡ Some (record { path = []; node = record_in root }) = sym at ∙ ap (node_at (nodes_of entries)) here ∙ root_named entries root size t is in
+    let both : Some node ≡ Some (record { path = []; node = record_in root }) =
+    sym at ∙ ap (node_at (nodes_of entries)) here ∙ root_named entries root size t is in
     let same : node ≡ record { path = []; node = record_in root } = cc in
     (here, ap (λ (x : NodeAt). x.path) same)
 
-dead : (entries : List (Option Entry)) (root : Entry) (k : ℕ) → length entries ≡ 1024 → IsRootTable entries root → IsRoot root → k ≢ 0 → node_at (nodes_of entries) k ≡ None
+dead : (entries : List (Option Entry)) (root : Entry) (k : ℕ) → length entries ≡ 1024 → IsRootTable entries root → IsRoot root → k ≢ 0
+    → node_at (nodes_of entries) k ≡ None
 dead entries root k size t is other = elim (node_at (nodes_of entries) k) as (λ o. node_at (nodes_of entries) k ≡ o → o ≡ None) [
   | None ↦ λ e. refl
   | Some node ↦ λ e. absurd (other (nothing_else entries root k node size t is e).0)
@@ -104,25 +112,37 @@ sizes_zero entries root t is = sum_zero size_in entries (λ k. elim (cases_eq k 
 ])
 
 -- a tree of a root alone is the map of the root
-pub root_map : (entries : List (Option Entry)) (root : Entry) → length entries ≡ 1024 → IsRootTable entries root → IsRoot root → IsMapOf (nodes_of entries) (record { path = []; node = record_in root } ∷ [])
+pub root_map : (entries : List (Option Entry)) (root : Entry) → length entries ≡ 1024 → IsRootTable entries root → IsRoot root
+    → IsMapOf (nodes_of entries) (record { path = []; node = record_in root } ∷ [])
 unfolding tree_of
 root_map entries root size t is =
     let kept = root_kept entries root size t is in
     let node = root_named entries root size t is in
     let none : (k : ℕ) → cond (is_some (get_or (set (nodes_of entries) 0 None) k None)) 1 0 ≡ 0 = λ k. elim (cases_eq k 0) [
-      | inl here ↦ ap (λ i. cond (is_some (get_or (set (nodes_of entries) 0 None) i None)) 1 0) here ∙ ap (λ (o : Option NodeAt). cond (is_some o) 1 0) (get_or-set_same (nodes_of entries) 0 None None (live_within (nodes_of entries) 0 (record { path = []; node = record_in root }) node))
-      | inr other ↦ ap (λ (o : Option NodeAt). cond (is_some o) 1 0) (get_or-set_other (nodes_of entries) 0 k None None other ∙ dead entries root k size t is other)
+      | inl here ↦
+          ap (λ i. cond (is_some (get_or (set (nodes_of entries) 0 None) i None)) 1 0) here
+          ∙ ap (λ (o : Option NodeAt). cond (is_some o) 1 0)
+          (get_or-set_same (nodes_of entries) 0 None None (live_within (nodes_of entries) 0 (record { path = []; node = record_in root }) node))
+      | inr other ↦
+          ap (λ (o : Option NodeAt). cond (is_some o) 1 0) (get_or-set_other (nodes_of entries) 0 k None None other ∙ dead entries root k size t is other)
     ] in
     record {
       there = fun_ext (λ p. elim (same_path p []) as (λ b. same_path p [] ≡ b → tree_of (nodes_of entries) p ≡ cond b (Some (record_in root)) None) [
-        | true ↦ λ e. ap (tree_of (nodes_of entries)) (path_true p [] e) ∙ at_its_path (nodes_of entries) 0 (record { path = []; node = record_in root }) (paths_apart entries kept) node
+        | true ↦
+            λ e. ap (tree_of (nodes_of entries)) (path_true p [] e)
+            ∙ at_its_path (nodes_of entries) 0 (record { path = []; node = record_in root }) (paths_apart entries kept) node
         | false ↦ λ e. none_there (nodes_of entries) p (λ m b at same.
             let path = (nothing_else entries root m b size t is at).1 in
             let yes : same_path p [] ≡ true = ap (λ q. same_path q []) (sym same ∙ path) in
             let wrong : true ≡ false = sym yes ∙ e in
             cc)
       ] refl);
-      count = omega (arith, count_without (nodes_of entries) 0 (record { path = []; node = record_in root }) node, sum_zero (λ (o : Option NodeAt). cond (is_some o) 1 0) (set (nodes_of entries) 0 None) none);
+      count =
+          omega (
+            arith,
+            count_without (nodes_of entries) 0 (record { path = []; node = record_in root }) node,
+            sum_zero (λ (o : Option NodeAt). cond (is_some o) 1 0) (set (nodes_of entries) 0 None) none,
+          );
       space = space_is entries (nodes_of entries) refl kept ∙ sizes_zero entries root t is ∙ sym (ap (λ (xs : List ℕ). 0 + length xs) is.empty);
     }
 

@@ -20,12 +20,15 @@ both true b p q = q
 both false b p q = absurd cc
 
 -- what fits with more bytes fits with fewer
-join_fewer : (nodes : List NodeAt) (parent : NodeAt) (name : List ℕ) (more size : ℕ) → size ≤ more → can_join nodes parent name more ≡ true → can_join nodes parent name size ≡ true
+join_fewer : (nodes : List NodeAt) (parent : NodeAt) (name : List ℕ) (more size : ℕ) → size ≤ more → can_join nodes parent name more ≡ true
+    → can_join nodes parent name size ≡ true
 join_fewer nodes parent name more size fewer e =
     let parts = both_true _ (nat_le (space_of (all_some nodes) + more) 4194304) e in
-    both _ (nat_le (space_of (all_some nodes) + size) 4194304) parts.0 (le-leb (space_of (all_some nodes) + size) 4194304 (omega (arith, leb-true (space_of (all_some nodes) + more) 4194304 parts.1, fewer)))
+    both _ (nat_le (space_of (all_some nodes) + size) 4194304) parts.0
+    (le-leb (space_of (all_some nodes) + size) 4194304 (omega (arith, leb-true (space_of (all_some nodes) + more) 4194304 parts.1, fewer)))
 
-pub adds : (table : List (Option NodeAt)) (nodes : List NodeAt) (parent : NodeAt) (dir : ℕ) (name : List ℕ) (more size : ℕ) → IsMapOf table nodes → node_at table dir ≡ Some parent → size ≤ more → can_join nodes parent name more ≡ true → IsTrue (can_add table dir name size)
+pub adds : (table : List (Option NodeAt)) (nodes : List NodeAt) (parent : NodeAt) (dir : ℕ) (name : List ℕ) (more size : ℕ) → IsMapOf table nodes
+    → node_at table dir ≡ Some parent → size ≤ more → can_join nodes parent name more ≡ true → IsTrue (can_add table dir name size)
 adds table nodes parent dir name more size m at fewer e = can_add_is table nodes parent dir name size m at (join_fewer nodes parent name more size fewer e)
 
 -- a test of each number below a bound
@@ -57,7 +60,8 @@ pub image_fits : (i : ℕ) → i < 22 → can_join (standard_dirs ++ map image_n
 unfolding image_test
 image_fits i less = below_at image_test 22 i images_tested less
 
-pub images_more : (i : ℕ) → i < 22 → (standard_dirs ++ map image_node (take i images)) ++ image_node (image_at i) ∷ [] ≡ standard_dirs ++ map image_node (take (i + 1) images)
+pub images_more : (i : ℕ) → i < 22
+    → (standard_dirs ++ map image_node (take i images)) ++ image_node (image_at i) ∷ [] ≡ standard_dirs ++ map image_node (take (i + 1) images)
 images_more i less =
     let more : map image_node (take (i + 1) images) ≡ map image_node (take i images) ++ image_node (image_at i) ∷ [] =
     ap (map image_node) (take_more images i image.Init less) ∙ map-append image_node (take i images) (image_at i ∷ []) in
@@ -75,7 +79,9 @@ unfolding line_test
 line_fits i less = below_at line_test 8 i lines_tested less
 
 pub lines_more : (i : ℕ) → (with_images ++ map line_node (range_with_len 0 i)) ++ line_node i ∷ [] ≡ with_images ++ map line_node (range_with_len 0 (i + 1))
-lines_more i = append_assoc with_images (map line_node (range_with_len 0 i)) (line_node i ∷ []) ∙ ap (λ ns. with_images ++ ns) (sym (map-range_with_len_more line_node 0 i i (omega arith)))
+lines_more i =
+    append_assoc with_images (map line_node (range_with_len 0 i)) (line_node i ∷ [])
+    ∙ ap (λ ns. with_images ++ ns) (sym (map-range_with_len_more line_node 0 i i (omega arith)))
 
 pub tty_fits : can_join (with_images ++ map line_node (range_with_len 0 8)) dev_node (codes "tty") 0 ≡ true
 unfolding tree_of
@@ -90,9 +96,11 @@ unfolding tree_of
 ttys_fits on = refl
 
 range_more : (n : ℕ) → range_with_len 0 (n + 1) ≡ range_with_len 0 n ++ n ∷ []
-range_more n = sym (map-id (range_with_len 0 (n + 1))) ∙ map-range_with_len_more (λ (x : ℕ). x) 0 n n (omega arith) ∙ ap (λ xs. xs ++ n ∷ []) (map-id (range_with_len 0 n))
+range_more n =
+    sym (map-id (range_with_len 0 (n + 1))) ∙ map-range_with_len_more (λ (x : ℕ). x) 0 n n (omega arith) ∙ ap (λ xs. xs ++ n ∷ []) (map-id (range_with_len 0 n))
 
 pub ttys_more : (on : List Bool) (i : ℕ) → flat_map (tty_text on) (range_with_len 0 (i + 1)) ≡ flat_map (tty_text on) (range_with_len 0 i) ++ tty_text on i
 ttys_more on i =
     let range : range_with_len 0 (i + 1) ≡ range_with_len 0 i ++ i ∷ [] = range_more i in
-    ap (flat_map (tty_text on)) range ∙ flat_map-append (tty_text on) (range_with_len 0 i) (i ∷ []) ∙ ap (λ xs. flat_map (tty_text on) (range_with_len 0 i) ++ xs) (append-nil (tty_text on i))
+    ap (flat_map (tty_text on)) range ∙ flat_map-append (tty_text on) (range_with_len 0 i) (i ∷ [])
+    ∙ ap (λ xs. flat_map (tty_text on) (range_with_len 0 i) ++ xs) (append-nil (tty_text on i))

@@ -26,7 +26,10 @@ pub named_is : (entries : List (Option Entry)) (n : ℕ) → node_at (nodes_of e
 unfolding nodes_of
 named_is entries n = elim (cases_lt n (length entries)) [
   | inl below ↦ get_or-map-range_with_len (node_of entries) 0 (length entries) n n None below (omega arith)
-  | inr past ↦ get_or_past (map (node_of entries) (range_with_len 0 (length entries))) n None (omega (arith, length-map-range_with_len (node_of entries) 0 (length entries), past)) ∙ sym (nothing_past entries n past)
+  | inr past ↦
+      get_or_past (map (node_of entries) (range_with_len 0 (length entries))) n None
+      (omega (arith, length-map-range_with_len (node_of entries) 0 (length entries), past))
+      ∙ sym (nothing_past entries n past)
 ]
 
 -- an entry with its path
@@ -59,7 +62,8 @@ listed entries n node at =
     elim (entry_at entries n) as (λ o. entry_at entries n ≡ o → node_from o (path_up (length entries) entries n) ≡ Some node → EntryOf entries n node) [
       | None ↦ λ is e. absurd cc
       | Some entry ↦ λ is e.
-          elim (path_up (length entries) entries n) as (λ o. path_up (length entries) entries n ≡ o → node_from (Some entry) o ≡ Some node → EntryOf entries n node) [
+          elim (path_up (length entries) entries n) as
+          (λ o. path_up (length entries) entries n ≡ o → node_from (Some entry) o ≡ Some node → EntryOf entries n node) [
             | None ↦ λ up e. absurd cc
             | Some path ↦ λ up e.
                 let same : record { path = path; node = record_in entry } ≡ node = cc in
@@ -79,7 +83,8 @@ snoc_same (a ∷ p) (b ∷ q) x y e =
     (front, rest.1)
 
 -- two nodes of one path are one
-pub one_node : (k j : ℕ) (entries : List (Option Entry)) (n m : ℕ) (p : List (List ℕ)) → IsKept entries → path_up k entries n ≡ Some p → path_up j entries m ≡ Some p → n ≡ m
+pub one_node : (k j : ℕ) (entries : List (Option Entry)) (n m : ℕ) (p : List (List ℕ)) → IsKept entries → path_up k entries n ≡ Some p
+    → path_up j entries m ≡ Some p → n ≡ m
 unfolding path_up
 one_node zero j entries n m p kept e f = absurd cc
 one_node (suc k) j entries n m p kept e f = elim (path_is (suc k) entries n p e) [
@@ -91,9 +96,11 @@ one_node (suc k) j entries n m p kept e f = elim (path_is (suc k) entries n p e)
     | inl other ↦ absurd (omega (arith, ap length (sym other.whole ∙ below.whole), length-append below.above ((below.entry).name ∷ [])))
     | inr other ↦
         let same = snoc_same below.above other.above (below.entry).name (other.entry).name (sym below.whole ∙ other.whole) in
-        let up : path_up k entries (below.entry).dir ≡ Some below.above = subst (λ i. path_up i entries (below.entry).dir ≡ Some below.above) (omega (arith, below.enough)) below.up in
+        let up : path_up k entries (below.entry).dir ≡ Some below.above =
+        subst (λ i. path_up i entries (below.entry).dir ≡ Some below.above) (omega (arith, below.enough)) below.up in
         let there : path_up other.more entries (other.entry).dir ≡ Some below.above = other.up ∙ ap (λ (q : List (List ℕ)). Some q) (sym same.0) in
-        kept.apart n m below.entry other.entry below.at other.at (one_node k other.more entries (below.entry).dir (other.entry).dir below.above kept up there) same.1
+        kept.apart n m below.entry other.entry below.at other.at (one_node k other.more entries (below.entry).dir (other.entry).dir below.above kept up there)
+        same.1
   ]
 ]
 
@@ -106,16 +113,21 @@ paths_apart entries kept = record {
 }
 
 -- nodes after a change of one place
-pub nodes_after : (entries others : List (Option Entry)) (n : ℕ) (x : Option NodeAt) → length others ≡ length entries → n < length entries → node_of others n ≡ x → ((m : ℕ) → m ≢ n → node_of others m ≡ node_of entries m) → nodes_of others ≡ set (nodes_of entries) n x
+pub nodes_after : (entries others : List (Option Entry)) (n : ℕ) (x : Option NodeAt) → length others ≡ length entries → n < length entries
+    → node_of others n ≡ x → ((m : ℕ) → m ≢ n → node_of others m ≡ node_of entries m) → nodes_of others ≡ set (nodes_of entries) n x
 nodes_after entries others n x size below here same =
-    ext_get_or None (nodes_of others) (set (nodes_of entries) n x) (length-nodes others ∙ size ∙ sym (length-set (nodes_of entries) n x ∙ length-nodes entries)) (λ m inside.
+    ext_get_or None (nodes_of others) (set (nodes_of entries) n x) (length-nodes others ∙ size ∙ sym (length-set (nodes_of entries) n x ∙ length-nodes entries))
+    (λ m inside.
     elim (cases_eq m n) [
-      | inl is ↦ ap (node_at (nodes_of others)) is ∙ named_is others n ∙ here ∙ sym (ap (λ i. get_or (set (nodes_of entries) n x) i None) is ∙ get_or-set_same (nodes_of entries) n x None (omega (arith, length-nodes entries)))
+      | inl is ↦
+          ap (node_at (nodes_of others)) is ∙ named_is others n ∙ here
+          ∙ sym (ap (λ i. get_or (set (nodes_of entries) n x) i None) is ∙ get_or-set_same (nodes_of entries) n x None (omega (arith, length-nodes entries)))
       | inr other ↦ named_is others m ∙ same m other ∙ sym (named_is entries m) ∙ sym (get_or-set_other (nodes_of entries) n m x None other)
     ])
 
 -- a place that has not changed keeps its node
-pub named_stays : (P : ℕ → Type 0) (entries others : List (Option Entry)) (m : ℕ) → IsKept entries → length others ≡ length entries → Has P entries others → ((entry : Entry) → entry_at entries m ≡ Some entry → P m) → entry_at others m ≡ entry_at entries m → node_of others m ≡ node_of entries m
+pub named_stays : (P : ℕ → Type 0) (entries others : List (Option Entry)) (m : ℕ) → IsKept entries → length others ≡ length entries → Has P entries others
+    → ((entry : Entry) → entry_at entries m ≡ Some entry → P m) → entry_at others m ≡ entry_at entries m → node_of others m ≡ node_of entries m
 unfolding node_of
 named_stays P entries others m kept size has in_p same =
     elim (entry_at entries m) as (λ o. entry_at entries m ≡ o → node_of others m ≡ node_of entries m) [
@@ -123,12 +135,14 @@ named_stays P entries others m kept size has in_p same =
       | Some entry ↦ λ at.
           let there : entry_at others m ≡ Some entry = same ∙ at in
           let is = has_path entries m entry kept at in
-          let up : path_up (length others) others m ≡ Some is.path = subst (λ k. path_up k others m ≡ Some is.path) (sym size) (kept_path P (length entries) entries others m is.path has (in_p entry at) is.up) in
+          let up : path_up (length others) others m ≡ Some is.path =
+          subst (λ k. path_up k others m ≡ Some is.path) (sym size) (kept_path P (length entries) entries others m is.path has (in_p entry at) is.up) in
           rw (at, there, up, is.up) refl
     ] refl
 
 -- what stands in a place after a change
-pub after_set : {X : Type 0} (xs : List (Option X)) (n i : ℕ) (x : Option X) (y : X) → n < length xs → get_or (set xs n x) i None ≡ Some y → ((i ≡ n) × (x ≡ Some y)) ⊎ ((i ≢ n) × (get_or xs i None ≡ Some y))
+pub after_set : {X : Type 0} (xs : List (Option X)) (n i : ℕ) (x : Option X) (y : X) → n < length xs → get_or (set xs n x) i None ≡ Some y
+    → ((i ≡ n) × (x ≡ Some y)) ⊎ ((i ≢ n) × (get_or xs i None ≡ Some y))
 after_set xs n i x y below at = elim (cases_eq i n) [
   | inl same ↦ inl (same, sym (get_or-set_same xs n x None below) ∙ ap (λ j. get_or (set xs n x) j None) (sym same) ∙ at)
   | inr other ↦ inr (other, sym (get_or-set_other xs n i x None other) ∙ at)

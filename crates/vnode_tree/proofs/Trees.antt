@@ -41,7 +41,8 @@ pub record Owns (nodes : List (Option NodeAt)) (n : ℕ) (path : List (List ℕ)
   pub here : (a : NodeAt) → node_at nodes n ≡ Some a → a.path ≡ path
   pub others : (m : ℕ) (b : NodeAt) → node_at nodes m ≡ Some b → b.path ≡ path → m ≡ n
 
-pub none_there : (nodes : List (Option NodeAt)) (path : List (List ℕ)) → ((m : ℕ) (b : NodeAt) → node_at nodes m ≡ Some b → b.path ≢ path) → tree_of nodes path ≡ None
+pub none_there : (nodes : List (Option NodeAt)) (path : List (List ℕ)) → ((m : ℕ) (b : NodeAt) → node_at nodes m ≡ Some b → b.path ≢ path)
+    → tree_of nodes path ≡ None
 unfolding tree_of
 none_there [] path none = refl
 none_there (None ∷ nodes) path none = none_there nodes path (λ m. none (suc m))
@@ -62,7 +63,8 @@ found_at (None ∷ nodes) path node e =
     let rest = found_at nodes path node e in
     record { place = suc rest.place; itself = rest.itself; at = rest.at; path_is = rest.path_is; node_is = rest.node_is }
 found_at (Some b ∷ nodes) path node e =
-    elim (same_path path b.path) as (λ t. same_path path b.path ≡ t → cond t (Some b.node) (tree_of nodes path) ≡ Some node → FoundAt (Some b ∷ nodes) path node) [
+    elim (same_path path b.path) as
+    (λ t. same_path path b.path ≡ t → cond t (Some b.node) (tree_of nodes path) ≡ Some node → FoundAt (Some b ∷ nodes) path node) [
       | true ↦ λ t e. record { place = 0; itself = b; at = refl; path_is = sym (path_true path b.path t); node_is = cc }
       | false ↦ λ t e.
           let rest = found_at nodes path node e in
@@ -76,7 +78,8 @@ some_there (None ∷ nodes) zero a at e = cc
 some_there (None ∷ nodes) (suc n) a at e = some_there nodes n a at e
 some_there (Some b ∷ nodes) zero a at e =
     let same : b ≡ a = cc in
-    let here : cond (same_path a.path a.path) (Some b.node) (tree_of nodes a.path) ≡ None = subst (λ (x : NodeAt). cond (same_path a.path x.path) (Some b.node) (tree_of nodes a.path) ≡ None) same e in
+    let here : cond (same_path a.path a.path) (Some b.node) (tree_of nodes a.path) ≡ None =
+    subst (λ (x : NodeAt). cond (same_path a.path x.path) (Some b.node) (tree_of nodes a.path) ≡ None) same e in
     let some : Some b.node ≡ None = subst (λ t. cond t (Some b.node) (tree_of nodes a.path) ≡ None) (path_refl a.path) here in
     cc
 some_there (Some b ∷ nodes) (suc n) a at e =
@@ -110,17 +113,20 @@ swapped true true x y z apart = absurd (apart refl refl)
 swapped true false x y z apart = refl
 swapped false b x y z apart = refl
 
-head_owns : (x : Option NodeAt) (nodes : List (Option NodeAt)) (path other : List (List ℕ)) → Owns (x ∷ nodes) 0 path → tree_of nodes path ≡ None → (value : Option NodeRecord) → cond (same_path other path) value (tree_of nodes other) ≡ cond (same_path other path) value (tree_of (x ∷ nodes) other)
+head_owns : (x : Option NodeAt) (nodes : List (Option NodeAt)) (path other : List (List ℕ)) → Owns (x ∷ nodes) 0 path → tree_of nodes path ≡ None
+    → (value : Option NodeRecord) → cond (same_path other path) value (tree_of nodes other) ≡ cond (same_path other path) value (tree_of (x ∷ nodes) other)
 unfolding tree_of
 head_owns None nodes path other owns none value = refl
 head_owns (Some a) nodes path other owns none value =
     let is : a.path ≡ path = owns.here a refl in
-    elim (same_path other path) as (λ t. same_path other path ≡ t → cond t value (tree_of nodes other) ≡ cond t value (cond (same_path other a.path) (Some a.node) (tree_of nodes other))) [
+    elim (same_path other path) as
+    (λ t. same_path other path ≡ t → cond t value (tree_of nodes other) ≡ cond t value (cond (same_path other a.path) (Some a.node) (tree_of nodes other))) [
       | true ↦ λ t. refl
       | false ↦ λ t. rw (is, t) refl
     ] refl
 
-head_put : (x : Option NodeAt) (nodes : List (Option NodeAt)) (path other : List (List ℕ)) (value : Option NodeRecord) → tree_of nodes path ≡ None → tree_of (slot path value ∷ nodes) other ≡ cond (same_path other path) value (tree_of nodes other)
+head_put : (x : Option NodeAt) (nodes : List (Option NodeAt)) (path other : List (List ℕ)) (value : Option NodeRecord) → tree_of nodes path ≡ None
+    → tree_of (slot path value ∷ nodes) other ≡ cond (same_path other path) value (tree_of nodes other)
 unfolding tree_of
 head_put x nodes path other None none =
     elim (same_path other path) as (λ t. same_path other path ≡ t → tree_of nodes other ≡ cond t None (tree_of nodes other)) [
@@ -129,7 +135,8 @@ head_put x nodes path other None none =
     ] refl
 head_put x nodes path other (Some node) none = refl
 
-put_at : (nodes : List (Option NodeAt)) (n : ℕ) (path other : List (List ℕ)) (value : Option NodeRecord) → n < length nodes → Owns nodes n path → tree_of (set nodes n (slot path value)) other ≡ cond (same_path other path) value (tree_of nodes other)
+put_at : (nodes : List (Option NodeAt)) (n : ℕ) (path other : List (List ℕ)) (value : Option NodeRecord) → n < length nodes → Owns nodes n path
+    → tree_of (set nodes n (slot path value)) other ≡ cond (same_path other path) value (tree_of nodes other)
 unfolding tree_of
 put_at [] n path other value below owns = absurd (omega arith)
 put_at (x ∷ nodes) zero path other value below owns =
@@ -144,5 +151,6 @@ put_at (Some a ∷ nodes) (suc n) path other value below owns =
     omega arith)
 
 -- a change of a place changes what is at its path alone
-pub changes_at : (nodes : List (Option NodeAt)) (n : ℕ) (path : List (List ℕ)) (value : Option NodeRecord) → n < length nodes → Owns nodes n path → ChangesAt path value nodes (set nodes n (slot path value))
+pub changes_at : (nodes : List (Option NodeAt)) (n : ℕ) (path : List (List ℕ)) (value : Option NodeRecord) → n < length nodes → Owns nodes n path
+    → ChangesAt path value nodes (set nodes n (slot path value))
 changes_at nodes n path value below owns = record { only = λ other. put_at nodes n path other value below owns }

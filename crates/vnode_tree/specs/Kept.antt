@@ -30,6 +30,7 @@ pub record IsKept (entries : List (Option Entry)) : Type 0 where
   pub names : (number : ℕ) (entry : Entry) → entry_at entries number ≡ Some entry → number ≢ 0 → IsProper entry.name
   pub above : (number : ℕ) (entry : Entry) → entry_at entries number ≡ Some entry → number ≢ 0 → IsDirAt entries entry.dir
   pub paths : (number : ℕ) → IsSome (entry_at entries number) → IsSome (path_up (length entries) entries number)
-  pub apart : (number other : ℕ) (entry like : Entry) → entry_at entries number ≡ Some entry → entry_at entries other ≡ Some like → entry.dir ≡ like.dir → entry.name ≡ like.name → number ≡ other
+  pub apart : (number other : ℕ) (entry like : Entry) → entry_at entries number ≡ Some entry → entry_at entries other ≡ Some like → entry.dir ≡ like.dir
+      → entry.name ≡ like.name → number ≡ other
   pub kinds : (number : ℕ) (entry : Entry) → entry_at entries number ≡ Some entry → entry.attrs.is_dir ≡ is_dir entry.kind
   pub space : sum_by size_in entries ≤ FILE_SPACE

@@ -2,9 +2,9 @@
 ghost use Rattle.std.specs.Prelude.{◌≡◌, ℕ, ◌+◌, ◌-◌, ◌<◌, ◌≤◌, ◌^◌, [], ◌++◌, length, take, drop, replicate, OnOk, OnErr, IfOk};
 ghost use Rattle.vnode_tree.specs.Contents.{bytes_at, after_write};
 
-use sys_types::Piece;
 use std::alloc::{AllocError, Global};
 use std::marker::Model;
+use sys_types::Piece;
 
 /// The bytes that a file holds. Contracts see the list of them.
 #[derive(Drop)]

@@ -14,9 +14,9 @@ mod table;
 mod tree;
 mod walk;
 
-pub use sys_types::{FILE_SPACE, Kind, NAME_BYTES, NODES, Node, PATH_BYTES};
 pub use entry::Name255;
 pub use names::TextText;
 pub use std::alloc::AllocError as NoMemory;
+pub use sys_types::{FILE_SPACE, Kind, NAME_BYTES, NODES, Node, PATH_BYTES};
 pub use tree::{Tree, TreeFull, WriteFault};
 pub use walk::{End, MOST_PARTS, Walk};

@@ -19,9 +19,9 @@ use crate::tree::{Tree, TreeFull};
 use crate::{NODES, NoMemory};
 use access_rule::Attrs;
 use acl_core::Acl;
-use sys_types::{Image, InPlace, Kind, LINES, Node};
 use label_core::Element;
 use std::alloc::Global;
+use sys_types::{Image, InPlace, Kind, LINES, Node};
 use user_db::Boot;
 
 /// The superuser, and the superuser's group.

@@ -8,8 +8,8 @@ ghost use Rattle.vnode_tree.specs.Kept.{size_in};
 use crate::entry::Entry;
 use access_rule::Attrs;
 use acl_core::Acl;
-use sys_types::Node;
 use std::alloc::AllocError;
+use sys_types::Node;
 
 /// The entry of a node that is there.
 pub(crate) fn entry_of(entries: &[Option<Entry>], node: Node) -> &Entry

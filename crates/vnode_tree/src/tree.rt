@@ -15,9 +15,9 @@ use crate::entry::{Entry, Name255};
 use crate::table::{self, child_place, entry_of, first_child, free_place};
 use access_rule::Attrs;
 use acl_core::Acl;
-use sys_types::{Kind, Node, Piece};
 use std::alloc::AllocError;
 use std::marker::Model;
+use sys_types::{Kind, Node, Piece};
 
 /// The tree has 1,024 nodes.
 #[derive(Clone, Copy)]

@@ -63,10 +63,16 @@ fn the_owner_of_a_line_may_revoke_it(rt: HostRuntime) -> Result<(), Fail> {
     let boot = read_boot(rt.alloc(), b"")?;
     let tree = Tree::new(rt.alloc(), &boot)?;
     for (uid, path, rule) in &REVOKES {
-        assert!(rt; denied(&rt, &tree, *uid, Element::Equal, path) == *rule, "{path}");
+        assert!(rt;
+            denied(&rt, &tree, *uid, Element::Equal, path) == *rule,
+            "{path}"
+        );
     }
     for (uid, path, rule) in &HIGH_REVOKES {
-        assert!(rt; denied(&rt, &tree, *uid, Element::High, path) == *rule, "{path}");
+        assert!(rt;
+            denied(&rt, &tree, *uid, Element::High, path) == *rule,
+            "{path}"
+        );
     }
     Ok(())
 }

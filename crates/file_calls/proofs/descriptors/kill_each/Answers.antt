@@ -10,4 +10,6 @@ loop-file-preserved c =
     let i = c.loop-file.file-index in
     let file = c.file-item.result in
     let within : i < length files = omega arith in
-    rw c.killed.ensures (map_over_more (option_map killed) c.args.files.now files i (get_or files i file) c.loop-file-test.true c.loop-file.invariant (get_or_default files i file (get_or files i file) within))
+    rw c.killed.ensures
+    (map_over_more (option_map killed) c.args.files.now files i (get_or files i file) c.loop-file-test.true c.loop-file.invariant
+    (get_or_default files i file (get_or files i file) within))

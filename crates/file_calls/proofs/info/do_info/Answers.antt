@@ -15,7 +15,8 @@ returns-then-not-label_reads c = λ files line recheck.
     let v = view_of c.args.tree.now files c.args.caller.now line recheck in
     let place = path_of c.args.tree.now c.in-Ok.node in
     let label : dominates_node v (what_is c.args.tree.now c.in-Ok.node) ≡ false = sym (c.label_reads.ensures files line recheck) ∙ c.if-not-label_reads.true in
-    rw c.denied-then-not-label_reads.ensures (at_node v v (Answer (Denied LabelRead)) c.args.path.now (info_at v) place (rw c.in-Ok.ensures.allowed refl) c.in-Ok.ensures.ends
+    rw c.denied-then-not-label_reads.ensures
+    (at_node v v (Answer (Denied LabelRead)) c.args.path.now (info_at v) place (rw c.in-Ok.ensures.allowed refl) c.in-Ok.ensures.ends
     (refuses v (info_at v place) LabelRead (rw label refl)))
 
 pub returns : goal.returns

@@ -14,7 +14,8 @@ returns-then-not-label_reads c = λ files line recheck.
     let node = c.in-Ok.node in
     let v = view_of nodes files caller line recheck in
     let label : dominates_node v (what_is nodes node) ≡ false = sym (c.label_reads.ensures files line recheck) ∙ c.if-not-label_reads.true in
-    rw c.denied-then-not-label_reads.ensures (refused_there nodes files caller line recheck c.args.path.now (getlabel_at v) node LabelRead c.in-Ok.ensures (rw label refl))
+    rw c.denied-then-not-label_reads.ensures
+    (refused_there nodes files caller line recheck c.args.path.now (getlabel_at v) node LabelRead c.in-Ok.ensures (rw label refl))
 
 pub returns : goal.returns
 returns c = λ files line recheck.

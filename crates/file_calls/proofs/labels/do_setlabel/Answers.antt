@@ -15,7 +15,8 @@ returns-then-not-owns-clause-does c = λ files line recheck.
     let node = c.in-Ok.node in
     let v = view_of nodes files caller line recheck in
     let other : is_not_owner v (what_is nodes node) ≡ true = not-false _ (sym (c.owns.ensures files line recheck) ∙ c.if-not-owns.true) in
-    rw c.denied-then-not-owns.ensures (refused_there nodes files caller line recheck c.args.path.now (setlabel_at v c.args.element.now) node Owner c.in-Ok.ensures (rw other refl))
+    rw c.denied-then-not-owns.ensures
+    (refused_there nodes files caller line recheck c.args.path.now (setlabel_at v c.args.element.now) node Owner c.in-Ok.ensures (rw other refl))
 
 pub returns-then-not-relabels-clause-does : goal.returns-then-not-relabels-clause-does
 returns-then-not-relabels-clause-does c = λ files line recheck.
@@ -24,8 +25,10 @@ returns-then-not-relabels-clause-does c = λ files line recheck.
     let node = c.in-Ok.node in
     let v = view_of nodes files caller line recheck in
     let own : is_not_owner v (what_is nodes node) ≡ false = not-true _ (sym (c.owns.ensures files line recheck) ∙ c.if-not-owns.false) in
-    let outside : may_not_relabel v (what_is nodes node) c.args.element.now ≡ true = not-false _ (sym (c.relabels.ensures files line recheck) ∙ c.if-not-relabels.true) in
-    rw c.denied-then-not-relabels.ensures (refused_there nodes files caller line recheck c.args.path.now (setlabel_at v c.args.element.now) node Relabel c.in-Ok.ensures (rw (own, outside) refl))
+    let outside : may_not_relabel v (what_is nodes node) c.args.element.now ≡ true =
+    not-false _ (sym (c.relabels.ensures files line recheck) ∙ c.if-not-relabels.true) in
+    rw c.denied-then-not-relabels.ensures
+    (refused_there nodes files caller line recheck c.args.path.now (setlabel_at v c.args.element.now) node Relabel c.in-Ok.ensures (rw (own, outside) refl))
 
 pub returns-clause-open_files : goal.returns-clause-open_files
 returns-clause-open_files c = λ files are.
@@ -38,5 +41,8 @@ returns-clause-does c = λ files line recheck.
     let node = c.in-Ok.node in
     let v = view_of nodes files caller line recheck in
     let own : is_not_owner v (what_is nodes node) ≡ false = not-true _ (sym (c.owns.ensures files line recheck) ∙ c.if-not-owns.false) in
-    let inside : may_not_relabel v (what_is nodes node) c.args.element.now ≡ false = not-true _ (sym (c.relabels.ensures files line recheck) ∙ c.if-not-relabels.false) in
-    rw c.nothing.ensures (changed_there nodes c.set_element.new.tree files caller line recheck c.args.path.now (setlabel_at v c.args.element.now) node (with_element c.args.element.now) c.in-Ok.ensures (rw (own, inside) refl) refl (λ r. refl) c.set_element.ensures.set c.set_element.ensures.map)
+    let inside : may_not_relabel v (what_is nodes node) c.args.element.now ≡ false =
+    not-true _ (sym (c.relabels.ensures files line recheck) ∙ c.if-not-relabels.false) in
+    rw c.nothing.ensures
+    (changed_there nodes c.set_element.new.tree files caller line recheck c.args.path.now (setlabel_at v c.args.element.now) node
+    (with_element c.args.element.now) c.in-Ok.ensures (rw (own, inside) refl) refl (λ r. refl) c.set_element.ensures.set c.set_element.ensures.map)

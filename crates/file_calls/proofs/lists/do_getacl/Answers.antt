@@ -15,7 +15,8 @@ returns-then-not-label_reads c = λ files line recheck.
     let node = c.in-Ok.node in
     let v = view_of nodes files caller line recheck in
     let label : dominates_node v (what_is nodes node) ≡ false = sym (c.label_reads.ensures files line recheck) ∙ c.if-not-label_reads.true in
-    rw c.denied-then-not-label_reads.ensures (refused_there nodes files caller line recheck c.args.path.now (getacl_at v c.args.which) node LabelRead c.in-Ok.ensures (rw label refl))
+    rw c.denied-then-not-label_reads.ensures
+    (refused_there nodes files caller line recheck c.args.path.now (getacl_at v c.args.which) node LabelRead c.in-Ok.ensures (rw label refl))
 
 pub returns-then-lacks_list : goal.returns-then-lacks_list
 returns-then-lacks_list c = λ files line recheck.
@@ -25,7 +26,8 @@ returns-then-lacks_list c = λ files line recheck.
     let v = view_of nodes files caller line recheck in
     let label : dominates_node v (what_is nodes node) ≡ true = sym (c.label_reads.ensures files line recheck) ∙ c.if-not-label_reads.false in
     let lacks : lacks_list v (path_of nodes node) c.args.which ≡ true = sym c.lacks_list.ensures ∙ c.if-lacks_list.true in
-    rw c.denied-then-lacks_list.ensures (refused_there nodes files caller line recheck c.args.path.now (getacl_at v c.args.which) node NotDir c.in-Ok.ensures (rw (label, lacks) refl))
+    rw c.denied-then-lacks_list.ensures
+    (refused_there nodes files caller line recheck c.args.path.now (getacl_at v c.args.which) node NotDir c.in-Ok.ensures (rw (label, lacks) refl))
 
 pub returns : goal.returns
 returns c = λ files line recheck.
@@ -35,4 +37,5 @@ returns c = λ files line recheck.
     let v = view_of nodes files caller line recheck in
     let label : dominates_node v (what_is nodes node) ≡ true = sym (c.label_reads.ensures files line recheck) ∙ c.if-not-label_reads.false in
     let lacks : lacks_list v (path_of nodes node) c.args.which ≡ false = sym c.lacks_list.ensures ∙ c.if-lacks_list.false in
-    rw (c.text.ensures, c.list.ensures) (told_there nodes files caller line recheck c.args.path.now (getacl_at v c.args.which) node c.in-Ok.ensures (rw (label, lacks) refl) refl)
+    rw (c.text.ensures, c.list.ensures)
+    (told_there nodes files caller line recheck c.args.path.now (getacl_at v c.args.which) node c.in-Ok.ensures (rw (label, lacks) refl) refl)

@@ -14,7 +14,8 @@ returns-then-not-label_writes-clause-does c = λ files line recheck.
     let caller = c.args.caller.now in
     let v = view_of nodes files caller line recheck in
     let label : node_dominates v (what_is nodes c.in-Ok.node) ≡ false = sym (c.label_writes.ensures files line recheck) ∙ c.if-not-label_writes.true in
-    rw c.denied-then-not-label_writes.ensures (refused_there nodes files caller line recheck c.args.path.now (chmod_at v c.args.mode) c.in-Ok.node LabelWrite c.in-Ok.ensures (rw label refl))
+    rw c.denied-then-not-label_writes.ensures
+    (refused_there nodes files caller line recheck c.args.path.now (chmod_at v c.args.mode) c.in-Ok.node LabelWrite c.in-Ok.ensures (rw label refl))
 
 pub returns-then-not-owns-clause-does : goal.returns-then-not-owns-clause-does
 returns-then-not-owns-clause-does c = λ files line recheck.
@@ -23,7 +24,8 @@ returns-then-not-owns-clause-does c = λ files line recheck.
     let v = view_of nodes files caller line recheck in
     let label : node_dominates v (what_is nodes c.in-Ok.node) ≡ true = sym (c.label_writes.ensures files line recheck) ∙ c.if-not-label_writes.false in
     let other : is_not_owner v (what_is nodes c.in-Ok.node) ≡ true = not-false _ (sym (c.owns.ensures files line recheck) ∙ c.if-not-owns.true) in
-    rw c.denied-then-not-owns.ensures (refused_there nodes files caller line recheck c.args.path.now (chmod_at v c.args.mode) c.in-Ok.node Owner c.in-Ok.ensures (rw (label, other) refl))
+    rw c.denied-then-not-owns.ensures
+    (refused_there nodes files caller line recheck c.args.path.now (chmod_at v c.args.mode) c.in-Ok.node Owner c.in-Ok.ensures (rw (label, other) refl))
 
 pub returns-clause-open_files : goal.returns-clause-open_files
 returns-clause-open_files c = λ files are.
@@ -36,4 +38,6 @@ returns-clause-does c = λ files line recheck.
     let v = view_of nodes files caller line recheck in
     let label : node_dominates v (what_is nodes c.in-Ok.node) ≡ true = sym (c.label_writes.ensures files line recheck) ∙ c.if-not-label_writes.false in
     let own : is_not_owner v (what_is nodes c.in-Ok.node) ≡ false = not-true _ (sym (c.owns.ensures files line recheck) ∙ c.if-not-owns.false) in
-    rw c.nothing.ensures (changed_there nodes c.set_mode.new.tree files caller line recheck c.args.path.now (chmod_at v c.args.mode) c.in-Ok.node (with_bits c.args.mode) c.in-Ok.ensures (rw (label, own) refl) refl (λ r. refl) c.set_mode.ensures.set c.set_mode.ensures.map)
+    rw c.nothing.ensures
+    (changed_there nodes c.set_mode.new.tree files caller line recheck c.args.path.now (chmod_at v c.args.mode) c.in-Ok.node (with_bits c.args.mode)
+    c.in-Ok.ensures (rw (label, own) refl) refl (λ r. refl) c.set_mode.ensures.set c.set_mode.ensures.map)

@@ -14,7 +14,9 @@ returns-then-not-label_writes-clause-does c = λ files line recheck.
     let caller = c.args.caller.now in
     let v = view_of nodes files caller line recheck in
     let label : node_dominates v (what_is nodes c.in-Ok.node) ≡ false = sym (c.label_writes.ensures files line recheck) ∙ c.if-not-label_writes.true in
-    rw c.denied-then-not-label_writes.ensures (refused_there nodes files caller line recheck c.args.path.now (chown_at v c.args.uid c.args.gid) c.in-Ok.node LabelWrite c.in-Ok.ensures (rw label refl))
+    rw c.denied-then-not-label_writes.ensures
+    (refused_there nodes files caller line recheck c.args.path.now (chown_at v c.args.uid c.args.gid) c.in-Ok.node LabelWrite c.in-Ok.ensures
+    (rw label refl))
 
 pub returns-then-not-is_superuser-clause-does : goal.returns-then-not-is_superuser-clause-does
 returns-then-not-is_superuser-clause-does c = λ files line recheck.
@@ -23,7 +25,9 @@ returns-then-not-is_superuser-clause-does c = λ files line recheck.
     let v = view_of nodes files caller line recheck in
     let label : node_dominates v (what_is nodes c.in-Ok.node) ≡ true = sym (c.label_writes.ensures files line recheck) ∙ c.if-not-label_writes.false in
     let user : is_superuser caller.cred ≡ false = sym c.is_superuser.ensures ∙ c.if-not-is_superuser.true in
-    rw c.denied-then-not-is_superuser.ensures (refused_there nodes files caller line recheck c.args.path.now (chown_at v c.args.uid c.args.gid) c.in-Ok.node Super c.in-Ok.ensures (rw (label, user) refl))
+    rw c.denied-then-not-is_superuser.ensures
+    (refused_there nodes files caller line recheck c.args.path.now (chown_at v c.args.uid c.args.gid) c.in-Ok.node Super c.in-Ok.ensures
+    (rw (label, user) refl))
 
 pub returns-clause-open_files : goal.returns-clause-open_files
 returns-clause-open_files c = λ files are.
@@ -36,4 +40,6 @@ returns-clause-does c = λ files line recheck.
     let v = view_of nodes files caller line recheck in
     let label : node_dominates v (what_is nodes c.in-Ok.node) ≡ true = sym (c.label_writes.ensures files line recheck) ∙ c.if-not-label_writes.false in
     let superuser : is_superuser caller.cred ≡ true = sym c.is_superuser.ensures ∙ c.if-not-is_superuser.false in
-    rw c.nothing.ensures (changed_there nodes c.set_owner.new.tree files caller line recheck c.args.path.now (chown_at v c.args.uid c.args.gid) c.in-Ok.node (with_owner c.args.uid c.args.gid) c.in-Ok.ensures (rw (label, superuser) refl) refl (λ r. refl) c.set_owner.ensures.set c.set_owner.ensures.map)
+    rw c.nothing.ensures
+    (changed_there nodes c.set_owner.new.tree files caller line recheck c.args.path.now (chown_at v c.args.uid c.args.gid) c.in-Ok.node
+    (with_owner c.args.uid c.args.gid) c.in-Ok.ensures (rw (label, superuser) refl) refl (λ r. refl) c.set_owner.ensures.set c.set_owner.ensures.map)

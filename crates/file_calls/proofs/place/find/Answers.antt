@@ -7,7 +7,9 @@ use Rattle.file_calls.proofs.place.find.Goals as goal
 pub returns-in_err-search : goal.returns-in_err-search
 returns-in_err-search c =
     let same = err_from_is_err_and c.from_residual.result c.from_residual.ensures.1 in
-    rw (same.1, same.2) (denied_on_the_way c.args.tree.now c.args.caller.now c.args.path.now c.walk-walk.result c.in_err-search.field-0.0 c.walk-walk.ensures.by_walk (rw (← c.as_slice.ensures.value) (sym (ap rule_of c.in_err-search.was) ∙ c.search.ensures)))
+    rw (same.1, same.2)
+    (denied_on_the_way c.args.tree.now c.args.caller.now c.args.path.now c.walk-walk.result c.in_err-search.field-0.0 c.walk-walk.ensures.by_walk
+    (rw (← c.as_slice.ensures.value) (sym (ap rule_of c.in_err-search.was) ∙ c.search.ensures)))
 
 pub returns : goal.returns
 returns c =

@@ -6,4 +6,6 @@ use Rattle.file_calls.proofs.place.search.Given as goal
 
 -- the directories so far may be searched, so it is left to those that were not looked at
 abbrev pub invariant-loop-dir : goal.invariant-loop-dir
-invariant-loop-dir l = search_rules (at_path (nodes_from l.tree)) l.caller (map (path_of l.tree) (drop l.dir-index l.dirs)) ≡ search_rules (at_path (nodes_from l.tree)) l.caller (map (path_of l.tree) l.dirs)
+invariant-loop-dir l =
+    search_rules (at_path (nodes_from l.tree)) l.caller (map (path_of l.tree) (drop l.dir-index l.dirs))
+    ≡ search_rules (at_path (nodes_from l.tree)) l.caller (map (path_of l.tree) l.dirs)

@@ -17,7 +17,8 @@ returns-then-not-label_writes c = λ files line recheck.
     let caller = c.args.caller.now in
     let node = c.in_ok-node.node in
     let v = view_of nodes files caller line recheck in
-    let tty : is_none (tty_of (what_is nodes node)) ≡ false = line_there (record_of nodes node) (what_is nodes node) _ (c.kind.ensures.kind ∙ ap (λ (k : Kind). Some k) c.in-Line.is) c.kind.ensures.map in
+    let tty : is_none (tty_of (what_is nodes node)) ≡ false =
+    line_there (record_of nodes node) (what_is nodes node) _ (c.kind.ensures.kind ∙ ap (λ (k : Kind). Some k) c.in-Line.is) c.kind.ensures.map in
     let label : node_dominates v (what_is nodes node) ≡ false = sym (c.label_writes.ensures files line recheck) ∙ c.if-not-label_writes.true in
     lines_there nodes files caller line recheck c.args.path.now (revoke_at v) node c.in_ok-node.ensures ∙ rw (tty, label) refl
 
@@ -27,7 +28,8 @@ returns-then-not-owns c = λ files line recheck.
     let caller = c.args.caller.now in
     let node = c.in_ok-node.node in
     let v = view_of nodes files caller line recheck in
-    let tty : is_none (tty_of (what_is nodes node)) ≡ false = line_there (record_of nodes node) (what_is nodes node) _ (c.kind.ensures.kind ∙ ap (λ (k : Kind). Some k) c.in-Line.is) c.kind.ensures.map in
+    let tty : is_none (tty_of (what_is nodes node)) ≡ false =
+    line_there (record_of nodes node) (what_is nodes node) _ (c.kind.ensures.kind ∙ ap (λ (k : Kind). Some k) c.in-Line.is) c.kind.ensures.map in
     let label : node_dominates v (what_is nodes node) ≡ true = sym (c.label_writes.ensures files line recheck) ∙ c.if-not-label_writes.false in
     let other : is_not_owner v (what_is nodes node) ≡ true = not-false _ (sym (c.owns.ensures files line recheck) ∙ c.if-not-owns.true) in
     lines_there nodes files caller line recheck c.args.path.now (revoke_at v) node c.in_ok-node.ensures ∙ rw (tty, label, other) refl
@@ -38,7 +40,8 @@ returns c = λ files line recheck.
     let caller = c.args.caller.now in
     let node = c.in_ok-node.node in
     let v = view_of nodes files caller line recheck in
-    let tty : is_none (tty_of (what_is nodes node)) ≡ false = line_there (record_of nodes node) (what_is nodes node) _ (c.kind.ensures.kind ∙ ap (λ (k : Kind). Some k) c.in-Line.is) c.kind.ensures.map in
+    let tty : is_none (tty_of (what_is nodes node)) ≡ false =
+    line_there (record_of nodes node) (what_is nodes node) _ (c.kind.ensures.kind ∙ ap (λ (k : Kind). Some k) c.in-Line.is) c.kind.ensures.map in
     let label : node_dominates v (what_is nodes node) ≡ true = sym (c.label_writes.ensures files line recheck) ∙ c.if-not-label_writes.false in
     let own : is_not_owner v (what_is nodes node) ≡ false = not-true _ (sym (c.owns.ensures files line recheck) ∙ c.if-not-owns.false) in
     lines_there nodes files caller line recheck c.args.path.now (revoke_at v) node c.in_ok-node.ensures ∙ rw (tty, label, own) refl

@@ -22,7 +22,8 @@ returns-in-Ok-write_all g c =
     let says = rw c.in-Err-Line.field-0-is at c.in-Err-Line.ensures.reads in
     ran _ _ _ _
     (λ boot_text text bl sl.
-    subst (λ out. Writes Input out (g.K.Sink.written c.args.out.now) (g.K.Sink.written c.write_all.new.out)) (sym (bad-boot boot_text text c.in-Err-Line.number (says boot_text bl)))
+    subst (λ out. Writes Input out (g.K.Sink.written c.args.out.now) (g.K.Sink.written c.write_all.new.out))
+    (sym (bad-boot boot_text text c.in-Err-Line.number (says boot_text bl)))
     (record { appended = rw (c.as_slice.ensures.value, c.bad_boot_line.ensures, c.in-Err-Line.number-is) at told; code = refl }))
     (λ text left e. cc) (λ e. cc) (λ e. cc) tt (λ boot_text bl bad. (refl, refl))
 
@@ -32,7 +33,8 @@ returns-in-Err g c =
     let says = rw c.in-Err-Line.field-0-is at c.in-Err-Line.ensures.reads in
     ran _ _ _ _
     (λ boot_text text bl sl.
-    subst (λ out. Writes WriteFault out (g.K.Sink.written c.args.out.now) (g.K.Sink.written c.write_all.new.out)) (sym (bad-boot boot_text text c.in-Err-Line.number (says boot_text bl)))
+    subst (λ out. Writes WriteFault out (g.K.Sink.written c.args.out.now) (g.K.Sink.written c.write_all.new.out))
+    (sym (bad-boot boot_text text c.in-Err-Line.number (says boot_text bl)))
     (rw (c.as_slice.ensures.value, c.bad_boot_line.ensures, c.in-Err-Line.number-is) at began))
     (λ text left e. cc) (λ e. cc) (λ e. c.in-Err.ensures.failed) tt (λ boot_text bl bad. (refl, refl))
 

@@ -5,5 +5,9 @@ use Rattle.vnode_tree.proofs.standard.ttys_text.Goals as goal
 
 pub loop-number-preserved : goal.loop-number-preserved
 loop-number-preserved c =
-    let text : c.in_ok-text.text ≡ c.loop-number.text ++ tty_text c.args.on.now c.loop-number.number = c.in_ok-text.ensures.line ∙ ap (λ (i : ℕ). c.loop-number.text ++ tty_line c.loop-number.number (get_or c.args.on.now i false)) c.from.ensures in
-    (text ∙ ap (λ (xs : List ℕ). xs ++ tty_text c.args.on.now c.loop-number.number) c.loop-number.invariant.0 ∙ sym (ttys_more c.args.on.now c.loop-number.number), omega (arith, c.in_ok-text.ensures.most, c.loop-number.invariant.1))
+    let text : c.in_ok-text.text ≡ c.loop-number.text ++ tty_text c.args.on.now c.loop-number.number =
+    c.in_ok-text.ensures.line ∙ ap (λ (i : ℕ). c.loop-number.text ++ tty_line c.loop-number.number (get_or c.args.on.now i false)) c.from.ensures in (
+      text ∙ ap (λ (xs : List ℕ). xs ++ tty_text c.args.on.now c.loop-number.number) c.loop-number.invariant.0
+          ∙ sym (ttys_more c.args.on.now c.loop-number.number),
+      omega (arith, c.in_ok-text.ensures.most, c.loop-number.invariant.1),
+    )

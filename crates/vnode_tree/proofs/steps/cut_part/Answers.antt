@@ -8,5 +8,6 @@ returns-in-None c = cut_none c.args.path.now (sym c.slash_at.ensures ∙ c.in-No
 
 pub returns-in-Some : goal.returns-in-Some
 returns-in-Some c =
-    cut_some c.args.path.now c.split_at.result.0.now c.split_at.result.1.now _ c.in-Some.at (sym c.slash_at.ensures ∙ c.in-Some.is) c.split_at.ensures.front c.split_at.ensures.back
+    cut_some c.args.path.now c.split_at.result.0.now c.split_at.result.1.now _ c.in-Some.at (sym c.slash_at.ensures ∙ c.in-Some.is) c.split_at.ensures.front
+    c.split_at.ensures.back
     (ap (λ n. take n (drop 1 c.split_at.result.1.now)) (sym (length-drop 1 c.split_at.result.1.now)) ∙ take-length (drop 1 c.split_at.result.1.now))

@@ -13,12 +13,17 @@ invariant_of-result c =
 pub returns-clause-seen : goal.returns-clause-seen
 returns-clause-seen c =
     let caller = c.first_caller-caller in
-    rw (c.new-2.ensures, c.new-3.ensures) (seen_boot c.args.says.now c.in_ok-tree.tree caller.result c.in_ok-tree.ensures.nodes (ap (path_of c.in_ok-tree.tree) caller.ensures.directory ∙ c.root.ensures.path) caller.ensures.cred caller.ensures.label caller.ensures.umask)
+    rw (c.new-2.ensures, c.new-3.ensures)
+    (seen_boot c.args.says.now c.in_ok-tree.tree caller.result c.in_ok-tree.ensures.nodes
+    (ap (path_of c.in_ok-tree.tree) caller.ensures.directory ∙ c.root.ensures.path) caller.ensures.cred caller.ensures.label caller.ensures.umask)
 
 pub returns-clause-stands : goal.returns-clause-stands
 returns-clause-stands c =
     let caller = c.first_caller-caller in
     record {
-      seen = rw (c.new-2.ensures, c.new-3.ensures) (seen_boot c.args.says.now c.in_ok-tree.tree caller.result c.in_ok-tree.ensures.nodes (ap (path_of c.in_ok-tree.tree) caller.ensures.directory ∙ c.root.ensures.path) caller.ensures.cred caller.ensures.label caller.ensures.umask);
+      seen =
+          rw (c.new-2.ensures, c.new-3.ensures)
+          (seen_boot c.args.says.now c.in_ok-tree.tree caller.result c.in_ok-tree.ensures.nodes
+          (ap (path_of c.in_ok-tree.tree) caller.ensures.directory ∙ c.root.ensures.path) caller.ensures.cred caller.ensures.label caller.ensures.umask);
       within = Within-boot c.args.says.now;
     }

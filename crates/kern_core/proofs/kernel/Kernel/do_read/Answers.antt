@@ -17,9 +17,13 @@ returns-in-Ok c =
     let f = c.in-Ok.field-0 in
     let seen = seen_file k.tree f in
     let number = unwrap_or f.tty 0 in
-    let tty = some_number f.tty (of_line k.files c.args.fd f c.tty_of.result c.is_none.result c.in-Ok.ensures.file c.tty_of.ensures c.is_none.ensures c.if-is_none.false) in
+    let tty =
+    some_number f.tty
+    (of_line k.files c.args.fd f c.tty_of.result c.is_none.result c.in-Ok.ensures.file c.tty_of.ensures c.is_none.ensures c.if-is_none.false) in
     let does = rw (← c.self.view_is) at (c.read_line.ensures c.args.fd number seen) in
-    rw (← c.self.view_is) (does_left v _ _ _ _ (c.in-Ok.ensures.decided k.line) (subst (λ t. Does v c.read_line.new.self c.read_line.result (read_of v c.args.fd c.args.max seen t)) (sym tty) does))
+    rw (← c.self.view_is)
+    (does_left v _ _ _ _ (c.in-Ok.ensures.decided k.line)
+    (subst (λ t. Does v c.read_line.new.self c.read_line.result (read_of v c.args.fd c.args.max seen t)) (sym tty) does))
 
 pub returns-in-Err : goal.returns-in-Err
 returns-in-Err c = rw (← c.self.view_is) (c.in-Err.ensures.decided c.self.inside.line)

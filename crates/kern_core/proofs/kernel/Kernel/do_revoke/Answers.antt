@@ -19,5 +19,14 @@ pub returns : goal.returns
 returns c =
     let k = c.self.inside in
     let v = view_of k.tree k.files k.caller k.line k.recheck in
-    rw (← c.self.view_is, c.kill_all.ensures, c.empty.ensures, c.nothing.ensures) (goes_on v _ (revoke_row v c.args.path.now) (c.in_default.ensures k.files k.line k.recheck)
-    (ap (λ ds. record { descriptors = ds; line = record { input = []; output = [] }; tree = nodes_from k.tree; caller = seen_caller k.tree k.caller; recheck = k.recheck }) (seen_killed k.tree k.files)))
+    rw (← c.self.view_is, c.kill_all.ensures, c.empty.ensures, c.nothing.ensures)
+    (goes_on v _ (revoke_row v c.args.path.now) (c.in_default.ensures k.files k.line k.recheck)
+    (ap
+    (λ ds. record {
+      descriptors = ds;
+      line = record { input = []; output = [] };
+      tree = nodes_from k.tree;
+      caller = seen_caller k.tree k.caller;
+      recheck = k.recheck;
+    })
+    (seen_killed k.tree k.files)))

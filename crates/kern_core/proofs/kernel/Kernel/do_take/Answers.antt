@@ -10,4 +10,5 @@ returns-then-not-any_live c =
 pub returns : goal.returns
 returns c =
     let k = c.self.inside in
-    rw (← c.self.view_is, c.take_output.ensures.given, c.take_output.ensures.left) (some_taken k.tree k.files k.caller k.line k.recheck c.args.max (sym c.any_live.ensures ∙ c.if-not-any_live.false))
+    rw (← c.self.view_is, c.take_output.ensures.given, c.take_output.ensures.left)
+    (some_taken k.tree k.files k.caller k.line k.recheck c.args.max (sym c.any_live.ensures ∙ c.if-not-any_live.false))

@@ -13,4 +13,6 @@ pub returns-in_err-run_events-clause-goes : goal.returns-in_err-run_events-claus
 returns-in_err-run_events-clause-goes g c = λ ls.
     let same = err_from_is_err_and c.from_residual.result c.from_residual.ensures.1 in
     rw (same.1, same.2)
-    (goes-stop _ _ _ _ _ _ (goes-at _ _ _ _ _ _ (good-line _ _ _ _ ls _ (c.in-Some.ensures.events ∙ ap built_events c.as_slice.ensures.value)) (c.in_err-run_events.ensures.goes _ _)))
+    (goes-stop _ _ _ _ _ _
+    (goes-at _ _ _ _ _ _ (good-line _ _ _ _ ls _ (c.in-Some.ensures.events ∙ ap built_events c.as_slice.ensures.value))
+    (c.in_err-run_events.ensures.goes _ _)))

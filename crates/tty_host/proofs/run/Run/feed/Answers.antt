@@ -19,9 +19,13 @@ returns-then-is_full-clause-goes g c = λ text.
     let full : length self.line.items ≡ 4096 = eqb-true _ _ (sym c.if-is_full.ensures.value) in
     let long : 4096 < length line = omega (arith, full, length-append self.line.items (c.args.byte ∷ [])) in
     let one = one_line-byte self.line.items c.args.byte self.one_line c.if-byte-eq10.false in
-    goes-at _ _ _ _ _ _ (ap (λ bs. lines_come self (lines bs)) (sym (append_assoc self.line.items (c.args.byte ∷ []) text)) ∙ long-line self.kernel self.room self.number line text one long) (c.stop_at_line.ensures.goes _)
+    goes-at _ _ _ _ _ _
+    (ap (λ bs. lines_come self (lines bs)) (sym (append_assoc self.line.items (c.args.byte ∷ []) text))
+    ∙ long-line self.kernel self.room self.number line text one long)
+    (c.stop_at_line.ensures.goes _)
 
 pub returns-clause-goes : goal.returns-clause-goes
 returns-clause-goes g c = λ text.
     let self = c.args.self.now in
-    goes-at _ _ _ _ _ _ (ap (λ bs. lines_come self (lines bs)) (sym (append_assoc self.line.items (c.args.byte ∷ []) text))) (goes-ok _ _ _ _ (rw c.push.ensures.items (keeps-same _ _)))
+    goes-at _ _ _ _ _ _ (ap (λ bs. lines_come self (lines bs)) (sym (append_assoc self.line.items (c.args.byte ∷ []) text)))
+    (goes-ok _ _ _ _ (rw c.push.ensures.items (keeps-same _ _)))

@@ -15,7 +15,8 @@ returns-in_err-feed-clause-goes g c = λ text.
     let same = err_from_is_err_and c.from_residual.result c.from_residual.ensures.1 in
     rw (same.1, same.2)
     (goes-stop _ _ _ _ _ _ (goes-more _ _ _ _ _ _ _ (c.loop-byte.invariant.keeps text)
-    (goes-at _ _ _ _ _ _ (ap (λ t. to_come c.loop-byte.self t) (text-cons bytes text i c.loop-byte-test.true)) (c.in_err-feed.ensures.goes (drop (i + 1) bytes ++ text)))))
+    (goes-at _ _ _ _ _ _ (ap (λ t. to_come c.loop-byte.self t) (text-cons bytes text i c.loop-byte-test.true))
+    (c.in_err-feed.ensures.goes (drop (i + 1) bytes ++ text)))))
 
 pub returns-in_err-feed-clause-failed : goal.returns-in_err-feed-clause-failed
 returns-in_err-feed-clause-failed g c =
@@ -34,7 +35,8 @@ loop-byte-preserved g c =
     let grows = c.in_ok-feed.ensures.grows in
     record {
       keeps = λ text. keeps-more _ _ _ _ _ _ (c.loop-byte.invariant.keeps text)
-          (keeps-at _ _ _ _ _ (ap (λ t. to_come c.loop-byte.self t) (text-cons bytes text i c.loop-byte-test.true)) (keeps-ok _ _ _ _ _ (c.in_ok-feed.ensures.goes (drop (i + 1) bytes ++ text))));
+          (keeps-at _ _ _ _ _ (ap (λ t. to_come c.loop-byte.self t) (text-cons bytes text i c.loop-byte-test.true))
+          (keeps-ok _ _ _ _ _ (c.in_ok-feed.ensures.goes (drop (i + 1) bytes ++ text))));
       nearer = omega (arith, nearer, c.loop-byte.invariant.nearer);
       grows = omega (arith, grows, c.loop-byte.invariant.grows);
     }

@@ -17,4 +17,5 @@ returns-clause-goes g c =
     let new = c.end_line.new.self in
     let some = eqb-false _ _ (sym c.if-is_empty.ensures) in
     let long : 0 < length self.line.items = omega arith in
-    goes-to _ _ _ _ _ _ (sym (none-come new.kernel new.room new.number)) (goes-at _ _ _ _ _ _ (ap (λ ls. lines_come self ls) (lines-end self.line.items self.one_line long)) (c.end_line.ensures.goes []))
+    goes-to _ _ _ _ _ _ (sym (none-come new.kernel new.room new.number))
+    (goes-at _ _ _ _ _ _ (ap (λ ls. lines_come self ls) (lines-end self.line.items self.one_line long)) (c.end_line.ensures.goes []))

@@ -12,13 +12,15 @@ pub returns-in-Ok-write_all-clause-goes : goal.returns-in-Ok-write_all-clause-go
 returns-in-Ok-write_all-clause-goes g c = λ es bad.
     let some : 0 < c.args.self.now.room = omega arith in
     let step = c.in-Ok-step.ensures in
-    event-next _ _ _ _ es bad _ _ _ some (answered _ _ _ _ _ _ step.seen step.answer step.wakes (c.as_slice.ensures.value ∙ c.print_answer.ensures)) c.in-Ok-write_all.ensures.ok
+    event-next _ _ _ _ es bad _ _ _ some (answered _ _ _ _ _ _ step.seen step.answer step.wakes (c.as_slice.ensures.value ∙ c.print_answer.ensures))
+    c.in-Ok-write_all.ensures.ok
 
 pub returns-in-Err-write_all-clause-goes : goal.returns-in-Err-write_all-clause-goes
 returns-in-Err-write_all-clause-goes g c = λ es bad.
     let some : 0 < c.args.self.now.room = omega arith in
     let step = c.in-Ok-step.ensures in
-    event-next-failed _ _ _ _ es bad _ _ _ _ some (answered _ _ _ _ _ _ step.seen step.answer step.wakes (c.as_slice.ensures.value ∙ c.print_answer.ensures)) c.in-Err-write_all.ensures.began
+    event-next-failed _ _ _ _ es bad _ _ _ _ some (answered _ _ _ _ _ _ step.seen step.answer step.wakes (c.as_slice.ensures.value ∙ c.print_answer.ensures))
+    c.in-Err-write_all.ensures.began
 
 pub returns-in-Err-step-clause-goes : goal.returns-in-Err-step-clause-goes
 returns-in-Err-step-clause-goes g c = λ es bad.

@@ -12,7 +12,8 @@ returns-in_err-run_event-clause-goes g c = λ es bad.
     let same = err_from_is_err_and c.from_residual.result c.from_residual.ensures.1 in
     rw (same.1, same.2)
     (goes-stop c.in_err-run_event.field-0.0 _ _ _ _ _
-    (goes-next _ _ _ _ _ _ _ _ c.args.events.now es bad c.loop-i.i c.get.result c.get.ensures (c.loop-i.invariant.keeps es bad) (c.in_err-run_event.ensures.goes _ bad)))
+    (goes-next _ _ _ _ _ _ _ _ c.args.events.now es bad c.loop-i.i c.get.result c.get.ensures (c.loop-i.invariant.keeps es bad)
+    (c.in_err-run_event.ensures.goes _ bad)))
 
 pub returns-in_err-run_event-clause-number : goal.returns-in_err-run_event-clause-number
 returns-in_err-run_event-clause-number g c = let number = c.in_err-run_event.ensures.number in number ∙ c.loop-i.invariant.number
@@ -32,7 +33,9 @@ loop-i-preserved g c =
     let number = c.in_ok-run_event.ensures.number in
     let grows = c.in_ok-run_event.ensures.grows in
     record {
-      keeps = λ es bad. keeps-next _ _ _ _ _ _ _ c.args.events.now es bad c.loop-i.i c.get.result c.get.ensures (c.loop-i.invariant.keeps es bad) (keeps-ok _ _ _ _ _ (c.in_ok-run_event.ensures.goes _ bad));
+      keeps =
+          λ es bad. keeps-next _ _ _ _ _ _ _ c.args.events.now es bad c.loop-i.i c.get.result c.get.ensures (c.loop-i.invariant.keeps es bad)
+          (keeps-ok _ _ _ _ _ (c.in_ok-run_event.ensures.goes _ bad));
       room = omega (arith, room, c.loop-i.invariant.room);
       number = number ∙ c.loop-i.invariant.number;
       grows = omega (arith, grows, c.loop-i.invariant.grows);

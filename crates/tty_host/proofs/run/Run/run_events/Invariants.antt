@@ -7,7 +7,8 @@ use Rattle.tty_host.proofs.run.Run.run_events.Given as goal
 -- the events so far are run
 abbrev pub invariant-loop-i : goal.invariant-loop-i
 invariant-loop-i g l = record {
-  keeps : (es : List Event) (bad : Option ℕ) → Keeps (g.K.Sink.written l.fn.out) (come l.fn.self (l.events ++ es) bad) (g.K.Sink.written l.out) (come l.self (drop l.i l.events ++ es) bad);
+  keeps : (es : List Event) (bad : Option ℕ)
+      → Keeps (g.K.Sink.written l.fn.out) (come l.fn.self (l.events ++ es) bad) (g.K.Sink.written l.out) (come l.self (drop l.i l.events ++ es) bad);
   room : l.self.room + l.i ≡ l.fn.self.room;
   number : l.self.number ≡ l.fn.self.number;
   grows : g.K.Sink.faults l.fn.out ≤ g.K.Sink.faults l.out;

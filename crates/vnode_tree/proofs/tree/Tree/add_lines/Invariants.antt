@@ -5,4 +5,5 @@ use Rattle.vnode_tree.specs.Standard.{IsMapOf, Keeps, with_images, line_node, de
 use Rattle.vnode_tree.proofs.tree.Tree.add_lines.Given as goal
 
 abbrev pub invariant-loop-number : goal.invariant-loop-number
-invariant-loop-number l = IsMapOf l.self (with_images ++ map line_node (range_with_len 0 l.number)) × (node_at l.self l.dev ≡ Some dev_node) × Keeps l.fn.self l.self
+invariant-loop-number l =
+    IsMapOf l.self (with_images ++ map line_node (range_with_len 0 l.number)) × (node_at l.self l.dev ≡ Some dev_node) × Keeps l.fn.self l.self

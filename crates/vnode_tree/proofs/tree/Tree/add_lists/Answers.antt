@@ -18,11 +18,23 @@ add_super-requires-clause-room c =
 
 pub add_super-requires-2-clause-room : goal.add_super-requires-2-clause-room
 add_super-requires-2-clause-room c =
-    adds c.add_super.new.self (with_lines ++ users ∷ []) etc_node c.args.etc (codes "ttys") 80 (length c.in_ok-ttys.ttys) (subst (λ (t : List ℕ). IsMapOf c.add_super.new.self (with_lines ++ super_node (codes "etc" ∷ codes "users" ∷ []) kind.File mode_600 element.Low t ∷ [])) c.empty-users.ensures (c.add_super.ensures.grows etc_node with_lines c.requires.etc c.requires.map)) (held c.args.self.now c.add_super.new.self c.args.etc etc_node c.add_super.ensures.keeps c.requires.etc) c.in_ok-ttys.ensures.most (ttys_fits c.args.on.now)
+    adds c.add_super.new.self (with_lines ++ users ∷ []) etc_node c.args.etc (codes "ttys") 80 (length c.in_ok-ttys.ttys)
+    (subst
+    (λ (t : List ℕ). IsMapOf c.add_super.new.self (with_lines ++ super_node (codes "etc" ∷ codes "users" ∷ []) kind.File mode_600 element.Low t ∷ []))
+    c.empty-users.ensures (c.add_super.ensures.grows etc_node with_lines c.requires.etc c.requires.map))
+    (held c.args.self.now c.add_super.new.self c.args.etc etc_node c.add_super.ensures.keeps c.requires.etc) c.in_ok-ttys.ensures.most
+    (ttys_fits c.args.on.now)
 
 pub returns-clause-map : goal.returns-clause-map
 returns-clause-map c =
-    let users_there : IsMapOf c.add_super.new.self (with_lines ++ users ∷ []) = subst (λ (t : List ℕ). IsMapOf c.add_super.new.self (with_lines ++ super_node (codes "etc" ∷ codes "users" ∷ []) kind.File mode_600 element.Low t ∷ [])) c.empty-users.ensures (c.add_super.ensures.grows etc_node with_lines c.requires.etc c.requires.map) in
+    let users_there : IsMapOf c.add_super.new.self (with_lines ++ users ∷ []) =
+    subst (λ (t : List ℕ). IsMapOf c.add_super.new.self (with_lines ++ super_node (codes "etc" ∷ codes "users" ∷ []) kind.File mode_600 element.Low t ∷ []))
+    c.empty-users.ensures (c.add_super.ensures.grows etc_node with_lines c.requires.etc c.requires.map) in
     let etc_there = held c.args.self.now c.add_super.new.self c.args.etc etc_node c.add_super.ensures.keeps c.requires.etc in
-    let grown : IsMapOf c.add_super-2.new.self ((with_lines ++ users ∷ []) ++ super_node (codes "etc" ∷ codes "ttys" ∷ []) kind.File mode_644 element.Low c.in_ok-ttys.ttys ∷ []) = c.add_super-2.ensures.grows etc_node (with_lines ++ users ∷ []) etc_there users_there in
-    subst (λ (t : List ℕ). IsMapOf c.add_super-2.new.self ((with_lines ++ users ∷ []) ++ super_node (codes "etc" ∷ codes "ttys" ∷ []) kind.File mode_644 element.Low t ∷ [])) c.in_ok-ttys.ensures.text grown
+    let grown : IsMapOf c.add_super-2.new.self
+    ((with_lines ++ users ∷ []) ++ super_node (codes "etc" ∷ codes "ttys" ∷ []) kind.File mode_644 element.Low c.in_ok-ttys.ttys ∷ []) =
+    c.add_super-2.ensures.grows etc_node (with_lines ++ users ∷ []) etc_there users_there in
+    subst
+    (λ (t : List ℕ). IsMapOf c.add_super-2.new.self
+    ((with_lines ++ users ∷ []) ++ super_node (codes "etc" ∷ codes "ttys" ∷ []) kind.File mode_644 element.Low t ∷ []))
+    c.in_ok-ttys.ensures.text grown

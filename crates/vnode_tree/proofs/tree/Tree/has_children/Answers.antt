@@ -8,7 +8,8 @@ use Rattle.vnode_tree.proofs.tree.Tree.has_children.Goals as goal
 
 pub returns-in-Some-clause-some : goal.returns-in-Some-clause-some
 returns-in-Some-clause-some c =
-    has_child c.self.inside.entries.items c.as_slice.result.now c.args.self.now c.args.node _ c.self.view_is c.self.invariant c.requires c.as_slice.ensures.value
+    has_child c.self.inside.entries.items c.as_slice.result.now c.args.self.now c.args.node _ c.self.view_is c.self.invariant c.requires
+    c.as_slice.ensures.value
     (ap (λ d. position (is_in d) c.as_slice.result.now) (sym c.number.ensures) ∙ sym c.first_child.ensures ∙ c.in-Some.is)
 
 pub returns-in-None-clause-none : goal.returns-in-None-clause-none

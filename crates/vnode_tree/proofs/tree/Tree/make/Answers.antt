@@ -9,7 +9,11 @@ use Rattle.vnode_tree.proofs.Finite.{nodes_changed, nodes_counted, apart_table}
 use Rattle.vnode_tree.proofs.tree.Tree.make.Goals as goal
 
 pub returns-in_default-clause-full : goal.returns-in_default-clause-full
-returns-in_default-clause-full c = (λ _. full_table c.self.inside.entries.items c.args.self.now c.self.view_is c.self.invariant (ap (position is_none) (sym c.as_slice.ensures.value) ∙ sym c.free_place.ensures ∙ c.in_default.is), λ _. refl)
+returns-in_default-clause-full c = (
+  λ _. full_table c.self.inside.entries.items c.args.self.now c.self.view_is c.self.invariant
+      (ap (position is_none) (sym c.as_slice.ensures.value) ∙ sym c.free_place.ensures ∙ c.in_default.is),
+  λ _. refl,
+)
 
 -- the new node
 abbrev entry : goal.After-of → Entry
@@ -18,8 +22,13 @@ entry c = record { dir = c.number.result; name = c.copy.result; kind = c.args.ki
 room : (c : goal.After-of) → sum_by size_in c.self.inside.entries.items + length c.args.contents ≤ 4194304
 room c = omega (arith, c.requires.room, space_is c.self.inside.entries.items c.args.self.now c.self.view_is c.self.invariant)
 
-done : (c : goal.After-of) → Made c.args.self.now c.in-Some.place (path_of c.args.self.now c.args.dir ++ c.args.name.now ∷ []) (new_node c.args.kind c.args.attrs c.args.default c.args.contents) (set c.self.inside.entries.items c.in-Some.place (Some (entry c)))
-done c = made_call c.self.inside.entries.items c.as_slice.result.now c.args.self.now c.in-Some.place (entry c) c.args.dir c.args.name.now c.self.view_is c.self.invariant c.as_slice.ensures.value c.in-Some.ensures c.number.ensures c.copy.ensures.same c.copy.ensures.most c.requires.dir c.requires.name c.requires.kind (room c) c.requires.absent
+done : (c : goal.After-of)
+    → Made c.args.self.now c.in-Some.place (path_of c.args.self.now c.args.dir ++ c.args.name.now ∷ [])
+    (new_node c.args.kind c.args.attrs c.args.default c.args.contents) (set c.self.inside.entries.items c.in-Some.place (Some (entry c)))
+done c =
+    made_call c.self.inside.entries.items c.as_slice.result.now c.args.self.now c.in-Some.place (entry c) c.args.dir c.args.name.now c.self.view_is
+    c.self.invariant c.as_slice.ensures.value c.in-Some.ensures c.number.ensures c.copy.ensures.same c.copy.ensures.most c.requires.dir c.requires.name
+    c.requires.kind (room c) c.requires.absent
 
 pub invariant_of-self : goal.invariant_of-self
 invariant_of-self c = (done c).kept
@@ -52,7 +61,10 @@ pub returns-clause-map : goal.returns-clause-map
 returns-clause-map c = nodes_changed _ _ _ _ (returns-clause-changes c)
 
 pub returns-clause-full_map : goal.returns-clause-full_map
-returns-clause-full_map c = rw (nodes_counted c.args.self.now (apart_table c.self.inside.entries.items c.args.self.now c.self.view_is c.self.invariant)) (returns-clause-full c)
+returns-clause-full_map c =
+    rw (nodes_counted c.args.self.now (apart_table c.self.inside.entries.items c.args.self.now c.self.view_is c.self.invariant)) (returns-clause-full c)
 
 pub returns-in_default-clause-full_map : goal.returns-in_default-clause-full_map
-returns-in_default-clause-full_map c = rw (nodes_counted c.args.self.now (apart_table c.self.inside.entries.items c.args.self.now c.self.view_is c.self.invariant)) (returns-in_default-clause-full c)
+returns-in_default-clause-full_map c =
+    rw (nodes_counted c.args.self.now (apart_table c.self.inside.entries.items c.args.self.now c.self.view_is c.self.invariant))
+    (returns-in_default-clause-full c)

@@ -16,7 +16,11 @@ is_root : (c : goal.After-loop-place) → IsRoot (root c)
 is_root c = record { name = c.empty.ensures; kind = refl; is_dir = ap (λ a. a.is_dir) c.attrs_of_owner.ensures.attrs; empty = c.empty-2.ensures }
 
 table : (c : goal.After-loop-place) → IsRootTable c.loop-place.entries.items (root c)
-table c = first_alone c.loop-place.entries.items (root c) (λ k. c.loop-place.invariant.0 k ∙ ap (λ (es : List (Option Entry)). entry_at es k) (c.push_reserved.ensures.items ∙ ap (λ (es : List (Option Entry)). es ++ Some (root c) ∷ []) c.in_ok-entries.ensures.items))
+table c =
+    first_alone c.loop-place.entries.items (root c)
+    (λ k. c.loop-place.invariant.0 k
+    ∙ ap (λ (es : List (Option Entry)). entry_at es k)
+    (c.push_reserved.ensures.items ∙ ap (λ (es : List (Option Entry)). es ++ Some (root c) ∷ []) c.in_ok-entries.ensures.items))
 
 size : (c : goal.After-loop-place) → length c.loop-place.entries.items ≡ 1024
 size c = omega (arith, c.loop-place.entries.ok.0, c.loop-place.invariant.1, c.loop-place-test.false, c.loop-place.auto)
@@ -25,10 +29,14 @@ pub invariant_of-result : goal.invariant_of-result
 invariant_of-result c = root_kept c.loop-place.entries.items (root c) (size c) (table c) (is_root c)
 
 node_is : (c : goal.After-loop-place) → record { path = []; node = record_in (root c) } ≡ root_node
-node_is c = ap₂ (λ (a : Attrs) (bytes : List ℕ). record { path = []; node = record { kind = kind.Dir; attrs = a; default = None; contents = bytes } }) c.attrs_of_owner.ensures.attrs c.empty-2.ensures
+node_is c =
+    ap₂ (λ (a : Attrs) (bytes : List ℕ). record { path = []; node = record { kind = kind.Dir; attrs = a; default = None; contents = bytes } })
+    c.attrs_of_owner.ensures.attrs c.empty-2.ensures
 
 pub returns-clause-map : goal.returns-clause-map
-returns-clause-map c = subst (λ (n : NodeAt). IsMapOf (nodes_of c.loop-place.entries.items) (n ∷ [])) (node_is c) (root_map c.loop-place.entries.items (root c) (size c) (table c) (is_root c))
+returns-clause-map c =
+    subst (λ (n : NodeAt). IsMapOf (nodes_of c.loop-place.entries.items) (n ∷ [])) (node_is c)
+    (root_map c.loop-place.entries.items (root c) (size c) (table c) (is_root c))
 
 pub returns-clause-at : goal.returns-clause-at
 returns-clause-at c = root_named c.loop-place.entries.items (root c) (size c) (table c) (is_root c) ∙ ap (λ (n : NodeAt). Some n) (node_is c)

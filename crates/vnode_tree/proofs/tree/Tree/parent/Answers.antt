@@ -7,7 +7,11 @@ pub entry_of-requires : goal.entry_of-requires
 entry_of-requires c = rw c.as_slice.ensures.value (live_entry c.self.inside.entries.items c.args.self.now c.args.node c.self.view_is c.requires)
 
 pub returns-then-number-eq0 : goal.returns-then-number-eq0
-returns-then-number-eq0 c = root_dir c.self.inside.entries.items c.args.self.now c.args.node c.self.view_is c.self.invariant (sym c.number.ensures ∙ c.if-number-eq0.true)
+returns-then-number-eq0 c =
+    root_dir c.self.inside.entries.items c.args.self.now c.args.node c.self.view_is c.self.invariant (sym c.number.ensures ∙ c.if-number-eq0.true)
 
 pub returns : goal.returns
-returns c = rw c.of.ensures (parent_at c.self.inside.entries.items c.as_slice.result.now c.args.self.now c.args.node c.entry_of.result.now c.self.view_is c.self.invariant c.as_slice.ensures.value c.entry_of.ensures (λ zero_is. c.if-number-eq0.false (c.number.ensures ∙ zero_is)))
+returns c =
+    rw c.of.ensures
+    (parent_at c.self.inside.entries.items c.as_slice.result.now c.args.self.now c.args.node c.entry_of.result.now c.self.view_is c.self.invariant
+    c.as_slice.ensures.value c.entry_of.ensures (λ zero_is. c.if-number-eq0.false (c.number.ensures ∙ zero_is)))

@@ -9,51 +9,91 @@ use Rattle.vnode_tree.proofs.Finite.{nodes_changed, bytes_after, apart_table}
 use Rattle.vnode_tree.proofs.tree.Tree.write.Goals as goal
 
 pub write-requires : goal.write-requires
-write-requires c = rw c.as_mut_slice.ensures.value (live_entry c.self.inside.entries.items c.args.self.now c.args.node c.self.view_is (file_live c.args.self.now c.args.node c.requires))
+write-requires c =
+    rw c.as_mut_slice.ensures.value
+    (live_entry c.self.inside.entries.items c.args.self.now c.args.node c.self.view_is (file_live c.args.self.now c.args.node c.requires))
 
 pub entry_of-requires : goal.entry_of-requires
-entry_of-requires c = rw c.as_slice.ensures.value (live_entry c.self.inside.entries.items c.args.self.now c.args.node c.self.view_is (file_live c.args.self.now c.args.node c.requires))
+entry_of-requires c =
+    rw c.as_slice.ensures.value
+    (live_entry c.self.inside.entries.items c.args.self.now c.args.node c.self.view_is (file_live c.args.self.now c.args.node c.requires))
 
 pub returns-then-len_after-others-clause-space : goal.returns-then-len_after-others-clause-space
 returns-then-len_after-others-clause-space c =
-    let w = weighed c.self.inside.entries.items c.as_slice.result.now c.as_slice-2.result.now c.args.self.now c.args.node c.entry_of.result.now c.args.at c.args.bytes.now c.all_sizes.result c.len.result c.len_after.result c.self.view_is c.self.invariant c.as_slice.ensures.value c.as_slice-2.ensures.value c.entry_of.ensures c.all_sizes.ensures c.len.ensures c.len_after.ensures in
-    let over : 4194304 < space_of (with_record (with_write c.args.at c.args.bytes.now) c.args.self.now c.args.node) = omega (arith, w.whole, w.part, w.most, c.if-len_after-others.true) in
+    let w =
+    weighed c.self.inside.entries.items c.as_slice.result.now c.as_slice-2.result.now c.args.self.now c.args.node c.entry_of.result.now c.args.at
+    c.args.bytes.now c.all_sizes.result c.len.result c.len_after.result c.self.view_is c.self.invariant c.as_slice.ensures.value c.as_slice-2.ensures.value
+    c.entry_of.ensures c.all_sizes.ensures c.len.ensures c.len_after.ensures in
+    let over : 4194304 < space_of (with_record (with_write c.args.at c.args.bytes.now) c.args.self.now c.args.node) =
+    omega (arith, w.whole, w.part, w.most, c.if-len_after-others.true) in
     (λ _. over, λ _. refl)
 
 -- there is room
 room : (c : goal.In-Ok) → space_of (with_record (with_write c.args.at c.args.bytes.now) c.args.self.now c.args.node) ≤ 4194304
 room c =
-    let w = weighed c.self.inside.entries.items c.as_slice.result.now c.as_slice-2.result.now c.args.self.now c.args.node c.entry_of.result.now c.args.at c.args.bytes.now c.all_sizes.result c.len.result c.len_after.result c.self.view_is c.self.invariant c.as_slice.ensures.value c.as_slice-2.ensures.value c.entry_of.ensures c.all_sizes.ensures c.len.ensures c.len_after.ensures in
+    let w =
+    weighed c.self.inside.entries.items c.as_slice.result.now c.as_slice-2.result.now c.args.self.now c.args.node c.entry_of.result.now c.args.at
+    c.args.bytes.now c.all_sizes.result c.len.result c.len_after.result c.self.view_is c.self.invariant c.as_slice.ensures.value c.as_slice-2.ensures.value
+    c.entry_of.ensures c.all_sizes.ensures c.len.ensures c.len_after.ensures in
     omega (arith, w.whole, w.part, w.most, c.if-len_after-others.false)
 
-done : (c : goal.In-Ok) → Recorded (with_write c.args.at c.args.bytes.now) c.args.self.now c.args.node (with_entry (entry_with_contents (λ old. after_write old c.args.at c.args.bytes.now)) c.self.inside.entries.items c.args.node)
+done : (c : goal.In-Ok)
+    → Recorded (with_write c.args.at c.args.bytes.now) c.args.self.now c.args.node
+    (with_entry (entry_with_contents (λ old. after_write old c.args.at c.args.bytes.now)) c.self.inside.entries.items c.args.node)
 done c = file_written c.self.inside.entries.items c.args.self.now c.args.node c.args.at c.args.bytes.now c.self.view_is c.self.invariant c.requires (room c)
 
 pub invariant_of-self : goal.invariant_of-self
-invariant_of-self c = rw (entry_written (entry_with_contents (λ old. after_write old c.args.at c.args.bytes.now)) c.self.inside.entries.len c.self.inside.entries.items c.as_mut_slice.result.now c.write.new.entries c.args.node c.self.inside.entries.ok.0 c.as_mut_slice.ensures.value c.in-Ok.ensures.ok) (done c).kept
+invariant_of-self c =
+    rw
+    (entry_written (entry_with_contents (λ old. after_write old c.args.at c.args.bytes.now)) c.self.inside.entries.len c.self.inside.entries.items
+    c.as_mut_slice.result.now c.write.new.entries c.args.node c.self.inside.entries.ok.0 c.as_mut_slice.ensures.value c.in-Ok.ensures.ok)
+    (done c).kept
 
 pub returns-in-Ok-clause-space : goal.returns-in-Ok-clause-space
 returns-in-Ok-clause-space c = (λ is. absurd cc, λ over. absurd (omega (arith, over, room c)))
 
 pub returns-in-Ok-clause-after_write : goal.returns-in-Ok-clause-after_write
-returns-in-Ok-clause-after_write c = rw (entry_written (entry_with_contents (λ old. after_write old c.args.at c.args.bytes.now)) c.self.inside.entries.len c.self.inside.entries.items c.as_mut_slice.result.now c.write.new.entries c.args.node c.self.inside.entries.ok.0 c.as_mut_slice.ensures.value c.in-Ok.ensures.ok) (done c).set
+returns-in-Ok-clause-after_write c =
+    rw
+    (entry_written (entry_with_contents (λ old. after_write old c.args.at c.args.bytes.now)) c.self.inside.entries.len c.self.inside.entries.items
+    c.as_mut_slice.result.now c.write.new.entries c.args.node c.self.inside.entries.ok.0 c.as_mut_slice.ensures.value c.in-Ok.ensures.ok)
+    (done c).set
 
 pub returns-in-Ok-clause-changes : goal.returns-in-Ok-clause-changes
-returns-in-Ok-clause-changes c = rw (entry_written (entry_with_contents (λ old. after_write old c.args.at c.args.bytes.now)) c.self.inside.entries.len c.self.inside.entries.items c.as_mut_slice.result.now c.write.new.entries c.args.node c.self.inside.entries.ok.0 c.as_mut_slice.ensures.value c.in-Ok.ensures.ok) (done c).changes
+returns-in-Ok-clause-changes c =
+    rw
+    (entry_written (entry_with_contents (λ old. after_write old c.args.at c.args.bytes.now)) c.self.inside.entries.len c.self.inside.entries.items
+    c.as_mut_slice.result.now c.write.new.entries c.args.node c.self.inside.entries.ok.0 c.as_mut_slice.ensures.value c.in-Ok.ensures.ok)
+    (done c).changes
 
 pub returns-in-Err-clause-space : goal.returns-in-Err-clause-space
 returns-in-Err-clause-space c =
-    let w = weighed c.self.inside.entries.items c.as_slice.result.now c.as_slice-2.result.now c.args.self.now c.args.node c.entry_of.result.now c.args.at c.args.bytes.now c.all_sizes.result c.len.result c.len_after.result c.self.view_is c.self.invariant c.as_slice.ensures.value c.as_slice-2.ensures.value c.entry_of.ensures c.all_sizes.ensures c.len.ensures c.len_after.ensures in
+    let w =
+    weighed c.self.inside.entries.items c.as_slice.result.now c.as_slice-2.result.now c.args.self.now c.args.node c.entry_of.result.now c.args.at
+    c.args.bytes.now c.all_sizes.result c.len.result c.len_after.result c.self.view_is c.self.invariant c.as_slice.ensures.value c.as_slice-2.ensures.value
+    c.entry_of.ensures c.all_sizes.ensures c.len.ensures c.len_after.ensures in
     (λ is. absurd cc, λ over. absurd (omega (arith, over, w.whole, w.part, w.most, c.if-len_after-others.false)))
 
 pub returns-in-Ok-clause-map : goal.returns-in-Ok-clause-map
 returns-in-Ok-clause-map c = nodes_changed _ _ _ _ (returns-in-Ok-clause-changes c)
 
 pub returns-then-len_after-others-clause-space_map : goal.returns-then-len_after-others-clause-space_map
-returns-then-len_after-others-clause-space_map c = rw (bytes_after (with_write c.args.at c.args.bytes.now) c.args.self.now c.args.node (apart_table c.self.inside.entries.items c.args.self.now c.self.view_is c.self.invariant) (file_live c.args.self.now c.args.node c.requires)) (returns-then-len_after-others-clause-space c)
+returns-then-len_after-others-clause-space_map c =
+    rw
+    (bytes_after (with_write c.args.at c.args.bytes.now) c.args.self.now c.args.node
+    (apart_table c.self.inside.entries.items c.args.self.now c.self.view_is c.self.invariant) (file_live c.args.self.now c.args.node c.requires))
+    (returns-then-len_after-others-clause-space c)
 
 pub returns-in-Ok-clause-space_map : goal.returns-in-Ok-clause-space_map
-returns-in-Ok-clause-space_map c = rw (bytes_after (with_write c.args.at c.args.bytes.now) c.args.self.now c.args.node (apart_table c.self.inside.entries.items c.args.self.now c.self.view_is c.self.invariant) (file_live c.args.self.now c.args.node c.requires)) (returns-in-Ok-clause-space c)
+returns-in-Ok-clause-space_map c =
+    rw
+    (bytes_after (with_write c.args.at c.args.bytes.now) c.args.self.now c.args.node
+    (apart_table c.self.inside.entries.items c.args.self.now c.self.view_is c.self.invariant) (file_live c.args.self.now c.args.node c.requires))
+    (returns-in-Ok-clause-space c)
 
 pub returns-in-Err-clause-space_map : goal.returns-in-Err-clause-space_map
-returns-in-Err-clause-space_map c = rw (bytes_after (with_write c.args.at c.args.bytes.now) c.args.self.now c.args.node (apart_table c.self.inside.entries.items c.args.self.now c.self.view_is c.self.invariant) (file_live c.args.self.now c.args.node c.requires)) (returns-in-Err-clause-space c)
+returns-in-Err-clause-space_map c =
+    rw
+    (bytes_after (with_write c.args.at c.args.bytes.now) c.args.self.now c.args.node
+    (apart_table c.self.inside.entries.items c.args.self.now c.self.view_is c.self.invariant) (file_live c.args.self.now c.args.node c.requires))
+    (returns-in-Err-clause-space c)
