@@ -10,7 +10,8 @@ use std::marker::Model;
 
 /// A list of bytes over the blocks of a lease, which it uses in a circle.
 ///
-/// Contracts see of it a `ChainState`. What it holds is read over the pool of its blocks.
+/// Contracts see of it a `ChainState`. What it holds is read over the pool of its blocks. Unlike a lease it may be let go, as
+/// it is with the pool where all ends; its blocks are then not free again.
 pub struct Chain {
     lease: Lease,
     first: u16,
@@ -27,6 +28,12 @@ impl Model for Chain {
     ghost view = { λ c. record { blocks = c.lease; first = c.first; count = c.count } };
 
     ghost invariant = { λ c. (c.first ≤ BLOCK_BYTES * length c.lease) × (c.count ≤ BLOCK_BYTES * length c.lease) };
+}
+
+impl Drop for Chain {
+    fn drop(self) {
+        self.into_lease().end();
+    }
 }
 
 /// How many bytes the blocks of a lease have.

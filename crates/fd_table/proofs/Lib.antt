@@ -1,0 +1,5 @@
+pub mod CountLemmas
+pub mod KeptLemmas
+pub mod TableLemmas
+pub mod CountsLemmas
+pub mod MapLemmas

@@ -1,0 +1,4 @@
+pub mod Shared
+pub mod Kept
+pub mod Opens
+pub mod Calls

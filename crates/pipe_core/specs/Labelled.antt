@@ -1,0 +1,11 @@
+-- The places of the kernel's table of pipes, as pipes.
+use Rattle.std.specs.Prelude.{List, map, Option, option_map}
+use Rattle.block_pool.specs.Chain.{ChainState}
+use Rattle.pipe_core.specs.declared.pipes.Labelled.{Labelled}
+use Rattle.pipe_core.specs.Pipes.{Held, Pipes}
+
+abbrev pub held : Labelled → Held ChainState
+held l = record { contents = l.pipe; element = l.element }
+
+abbrev pub seen : List (Option Labelled) → Pipes ChainState
+seen places = map (option_map held) places

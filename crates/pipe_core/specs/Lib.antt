@@ -1,0 +1,3 @@
+pub mod Pipes
+pub mod Chains
+pub mod Labelled
