@@ -1,0 +1,5 @@
+pub mod PlaceLemmas
+pub mod LineLemmas
+pub mod InputLemmas
+pub mod DiscLemmas
+mod WorkedRows

@@ -1,0 +1,10 @@
+use Rattle.std.proofs.Common.{ap, ◌∙◌}
+use Rattle.line_disc.specs.Echo.{echo}
+use Rattle.line_disc.specs.Disc.{DiscState, discipline_of}
+use Rattle.line_disc.proofs.DiscLemmas as lemmas
+use Rattle.line_disc.proofs.disc.Disc.add.Goals as goal
+
+pub returns-clause-line : goal.returns-clause-line
+returns-clause-line c =
+    lemmas.adds (discipline_of c.args.pool.now c.args.self.now) _ _ c.args.byte c.echo-echoed.result.items
+    (c.echo-echoed.ensures ∙ ap (λ (s : DiscState). echo s.termios c.args.byte) c.self.view_is) c.push.ensures.line c.put_echo.ensures.line

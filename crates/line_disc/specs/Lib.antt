@@ -1,0 +1,7 @@
+pub mod Echo
+pub mod Discipline
+pub mod Cook
+pub mod Transfers
+pub mod Device
+pub mod Places
+pub mod Disc

@@ -1,0 +1,30 @@
+//! What holds of every line and of what has been done at it, as contracts of functions that do nothing.
+ghost use Rattle.std.specs.Prelude.{◌≡◌, ℕ, true, List, [], ◌∷◌, ◌++◌, length, nat_lt, replicate};
+ghost use Rattle.sys_types.specs.declared.limits.TheConstants.{LINE_BLOCKS, OPEN_FILES};
+ghost use Rattle.tty_dev.specs.Line.{LineState, is_dead, left_live};
+ghost use Rattle.tty_dev.specs.History.{Use, Counts, opens, closes, revokes, after, after_use, is_revoked_in, Leads};
+
+/// A file that was neither closed nor revoked is not dead. After a revoke every generation that was given before is dead for
+/// good.
+pub fn dead_files()
+    ensures revoked { (uses : List Use) (c : Counts) → nat_lt c.generation (after c uses).generation ≡ is_revoked_in uses }
+    ensures for_good { (uses : List Use) (c : Counts) (opened : ℕ) → nat_lt opened c.generation ≡ true → nat_lt opened (after c uses).generation ≡ true }
+{}
+
+/// The files that were neither closed nor revoked are as many as are counted live, and each was opened at the line's
+/// generation, so it is not dead.
+pub fn live_files()
+    ensures { (uses : List Use) (c : Counts) (files : List ℕ) → Leads uses c files → files ≡ replicate c.live c.generation }
+{}
+
+/// A line counts what is done at it as a history does.
+pub fn counts()
+    ensures { (line : LineState) (opened : ℕ) → left_live line opened
+        ≡ (after_use (record { generation = line.generation; live = line.live }) (closes opened)).live }
+{}
+
+/// The figures of the limits: the blocks of an open line, and the open files that there are at most.
+pub fn limits()
+    ensures blocks { LINE_BLOCKS ≡ 40 }
+    ensures files { OPEN_FILES ≡ 256 }
+{}
