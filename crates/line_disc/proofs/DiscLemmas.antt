@@ -1,5 +1,6 @@
 -- A line discipline over the blocks of a lease.
-use Rattle.std.proofs.Common.{◌≡◌, ℕ, suc, length-append, ◌+◌, ◌-◌, ◌<◌, ◌≤◌, Bool, true, false, not, List, [], ◌∷◌, ◌++◌, length, take, drop, min, map, sym, refl, ap, ap₂, ◌∙◌, arith, append-nil, add-one, drop-cons, get_or}
+use Rattle.std.proofs.Common.{◌≡◌, ℕ, suc, length-append, ◌+◌, ◌-◌, ◌<◌, ◌≤◌, Bool, true, false, not, List, [], ◌∷◌, ◌++◌, length, take, drop, min, map, sym}
+use Rattle.std.proofs.Common.{refl, ap, ap₂, ◌∙◌, arith, append-nil, add-one, drop-cons, get_or}
 use Rattle.std.proofs.lemmas.Grind.{flat_map-append}
 use Rattle.std.proofs.lemmas.List.{take_more}
 use Rattle.std.specs.Prelude.{if◌then◌else◌, nat_le, nat_lt, Option, None, reverse}
@@ -13,16 +14,21 @@ use Rattle.block_pool.proofs.BlockLemmas.{writes_wider, writes_in_turn}
 use Rattle.block_pool.proofs.CircleLemmas.{holds_apart}
 use Rattle.sys_types.specs.declared.sig.Sig.{Sig}
 use Rattle.termios_core.specs.declared.termios.Termios.{Termios}
-use Rattle.line_disc.specs.Echo.{shown_byte, shown, echo, erase_echo, kill_echo}
+use Rattle.line_disc.specs.Echo.{shown_byte, shown, echo, erase_echo, drop_line_echo}
 use Rattle.line_disc.specs.Discipline.{ReadyLine, Input, Discipline, bytes}
-use Rattle.line_disc.specs.Cook.{put_whole, stripped, is_flow, flowed, flushed, interrupted, signal_of, erased, erased_from, killed, file_ended, line_ended, added, cook_by_case, cook}
-use Rattle.line_disc.specs.Transfers.{has_none, waits, given, input_left, fitting}
+use Rattle.line_disc.specs.Cook.{put_whole, strip, is_flow, set_flow, flush, interrupt, signal_of, erase, erase_last, drop_line, end_file, end_line, add_byte}
+use Rattle.line_disc.specs.Cook.{cook_by_case, cook}
+use Rattle.line_disc.specs.Transfers.{has_none, waits, front, input_after, fit_count}
 use Rattle.line_disc.specs.declared.place.PlaceKind.{PlaceKind}
 use Rattle.line_disc.specs.declared.place.PlaceKind.TheVariants.{Byte, LineEnd, FileEnd}
 use Rattle.line_disc.specs.Places.{InputState, input_of, places_in, with_back, walk, all_bytes}
 use Rattle.line_disc.proofs.LineLemmas.{ReadsLine, ReadsBytes, all_bytes-push}
 use Rattle.line_disc.proofs.InputLemmas.{reads_line, reads_bytes}
 use Rattle.line_disc.specs.Disc.{DiscState, discipline_of, blocks_of, KeepsBlocks}
+
+-- what contracts see of a discipline with these parts
+abbrev pub disc_state : Termios → InputState → ChainState → Bool → DiscState
+disc_state termios input output stopped = record { termios = termios; input = input; output = output; stopped = stopped }
 
 -- the blocks of each queue are of the pool
 pub input_of_pool : (pool : PoolState) (d : DiscState) → AreOf pool (blocks_of d) → AreOf pool d.input.chain.blocks
@@ -35,11 +41,13 @@ output_of_pool pool d of_pool =
     (times_swapped d.input.chain.blocks d.output.blocks) of_pool)
 
 -- a write to the blocks of one queue leaves the other
-pub output_stays : (old new : PoolState) (d : DiscState) → AreOf old (blocks_of d) → WritesTo d.input.chain.blocks old new → holds new d.output ≡ holds old d.output
+pub output_stays : (old new : PoolState) (d : DiscState) → AreOf old (blocks_of d) → WritesTo d.input.chain.blocks old new
+    → holds new d.output ≡ holds old d.output
 output_stays old new d of_pool writes =
     holds_apart d.input.chain.blocks old new d.output writes (leases_apart old d.input.chain.blocks d.output.blocks of_pool)
 
-pub input_stays : (old new : PoolState) (d : DiscState) → AreOf old (blocks_of d) → WritesTo d.output.blocks old new → input_of new d.input ≡ input_of old d.input
+pub input_stays : (old new : PoolState) (d : DiscState) → AreOf old (blocks_of d) → WritesTo d.output.blocks old new
+    → input_of new d.input ≡ input_of old d.input
 unfolding input_of places_in
 input_stays old new d of_pool writes =
     let apart = leases_apart old d.input.chain.blocks d.output.blocks of_pool in
@@ -68,7 +76,8 @@ map_same (x ∷ xs) = ap (λ (ys : List ℕ). x ∷ ys) (map_same xs)
 -- A call that changes one queue.
 
 -- it writes to the blocks of the input alone
-pub keeps_by_input : (old new : PoolState) (d e : DiscState) → e.input.chain.blocks ≡ d.input.chain.blocks → e.output ≡ d.output → WritesTo d.input.chain.blocks old new
+pub keeps_by_input : (old new : PoolState) (d e : DiscState) → e.input.chain.blocks ≡ d.input.chain.blocks → e.output ≡ d.output
+    → WritesTo d.input.chain.blocks old new
     → KeepsBlocks old new d e
 keeps_by_input old new d e blocks same writes = record {
   input = blocks;
@@ -119,47 +128,47 @@ puts_nothing d out fits =
 -- The cases of a byte, from what each step makes of the line.
 
 pub adds : (d₀ d₁ d₂ : Discipline ℕ) (b : ℕ) (out : List ℕ) → out ≡ echo d₀.termios b → d₁ ≡ record d₀ { input = with_back Byte b d₀.input }
-    → d₂ ≡ put_whole bytes d₁ out → d₂ ≡ added bytes d₀ b
-unfolding added
+    → d₂ ≡ put_whole bytes d₁ out → d₂ ≡ add_byte bytes d₀ b
+unfolding add_byte
 adds d₀ d₁ d₂ b out echoed first second = second ∙ ap₂ (λ (d : Discipline ℕ) (o : List ℕ). put_whole bytes d o) first echoed
 
 pub ends_line : (d₀ d₁ d₂ : Discipline ℕ) (b : ℕ) (out : List ℕ) → out ≡ echo d₀.termios b → d₁ ≡ record d₀ { input = with_back LineEnd b d₀.input }
-    → d₂ ≡ put_whole bytes d₁ out → d₂ ≡ line_ended bytes d₀ b
-unfolding line_ended
+    → d₂ ≡ put_whole bytes d₁ out → d₂ ≡ end_line bytes d₀ b
+unfolding end_line
 ends_line d₀ d₁ d₂ b out echoed first second = second ∙ ap₂ (λ (d : Discipline ℕ) (o : List ℕ). put_whole bytes d o) first echoed
 
-pub ends_file : (d₀ d₁ : Discipline ℕ) (b : ℕ) → d₁ ≡ record d₀ { input = with_back FileEnd b d₀.input } → d₁ ≡ file_ended d₀
-unfolding file_ended
+pub ends_file : (d₀ d₁ : Discipline ℕ) (b : ℕ) → d₁ ≡ record d₀ { input = with_back FileEnd b d₀.input } → d₁ ≡ end_file d₀
+unfolding end_file
 ends_file d₀ d₁ b first = first
 
 pub interrupts : (d₀ d₁ d₂ : Discipline ℕ) (b : ℕ) (flushes : Bool) (out : List ℕ) → out ≡ echo d₀.termios b → flushes ≡ not d₀.termios.flags.noflsh
-    → d₁ ≡ flushed d₀ flushes flushes → d₂ ≡ put_whole bytes d₁ out → d₂ ≡ interrupted bytes d₀ b
-unfolding interrupted
+    → d₁ ≡ flush d₀ flushes flushes → d₂ ≡ put_whole bytes d₁ out → d₂ ≡ interrupt bytes d₀ b
+unfolding interrupt
 interrupts d₀ d₁ d₂ b flushes out echoed test first second =
-    second ∙ ap₂ (λ (d : Discipline ℕ) (o : List ℕ). put_whole bytes d o) (first ∙ ap (λ (t : Bool). flushed d₀ t t) test) echoed
+    second ∙ ap₂ (λ (d : Discipline ℕ) (o : List ℕ). put_whole bytes d o) (first ∙ ap (λ (t : Bool). flush d₀ t t) test) echoed
 
-pub kills : (d₀ d₁ d₂ : Discipline ℕ) (b : ℕ) (out : List ℕ) → out ≡ kill_echo d₀.termios b
-    → d₁ ≡ record d₀ { input = record { ready = d₀.input.ready; current = [] } } → d₂ ≡ put_whole bytes d₁ out → d₂ ≡ killed bytes d₀ b
-unfolding killed
-kills d₀ d₁ d₂ b out echoed first second = second ∙ ap₂ (λ (d : Discipline ℕ) (o : List ℕ). put_whole bytes d o) first echoed
+pub drops_line : (d₀ d₁ d₂ : Discipline ℕ) (b : ℕ) (out : List ℕ) → out ≡ drop_line_echo d₀.termios b
+    → d₁ ≡ record d₀ { input = record { ready = d₀.input.ready; current = [] } } → d₂ ≡ put_whole bytes d₁ out → d₂ ≡ drop_line bytes d₀ b
+unfolding drop_line
+drops_line d₀ d₁ d₂ b out echoed first second = second ∙ ap₂ (λ (d : Discipline ℕ) (o : List ℕ). put_whole bytes d o) first echoed
 
 -- the last byte of a list
 reverse_ends : (xs : List ℕ) (x : ℕ) → reverse (xs ++ x ∷ []) ≡ x ∷ reverse xs
 reverse_ends xs x = reverse-append xs (x ∷ [])
 
-pub erases_nothing : (d : Discipline ℕ) (b : ℕ) → d.input.current ≡ [] → d ≡ erased bytes d b
-unfolding erased
-erases_nothing d b none = ap (λ (xs : List ℕ). erased_from bytes d b (reverse xs)) (sym none)
+pub erases_nothing : (d : Discipline ℕ) (b : ℕ) → d.input.current ≡ [] → d ≡ erase bytes d b
+unfolding erase
+erases_nothing d b none = ap (λ (xs : List ℕ). erase_last bytes d b (reverse xs)) (sym none)
 
 pub erases : (d₀ d₁ d₂ : Discipline ℕ) (b removed : ℕ) (before : List ℕ) (out : List ℕ) → d₀.input.current ≡ before ++ removed ∷ []
     → out ≡ erase_echo d₀.termios b removed → d₁ ≡ record d₀ { input = record { ready = d₀.input.ready; current = before } }
-    → d₂ ≡ put_whole bytes d₁ out → d₂ ≡ erased bytes d₀ b
-unfolding erased
+    → d₂ ≡ put_whole bytes d₁ out → d₂ ≡ erase bytes d₀ b
+unfolding erase
 erases d₀ d₁ d₂ b removed before out current echoed first second =
     second ∙ ap₂ (λ (d : Discipline ℕ) (o : List ℕ). put_whole bytes d o) first echoed
     ∙ ap (λ (xs : List ℕ). put_whole bytes (record d₀ { input = record { ready = d₀.input.ready; current = xs } }) (erase_echo d₀.termios b removed))
     (sym (reverse-reverse before))
-    ∙ ap (erased_from bytes d₀ b) (sym (ap (λ (xs : List ℕ). reverse xs) current ∙ reverse_ends before removed))
+    ∙ ap (erase_last bytes d₀ b) (sym (ap (λ (xs : List ℕ). reverse xs) current ∙ reverse_ends before removed))
 
 -- an input by its parts
 pub same_input : (i : Input ℕ) (ready : List (ReadyLine ℕ)) (current : List ℕ) → i.ready ≡ ready → i.current ≡ current
@@ -173,17 +182,17 @@ pub push_bytes : (ks new : List PlaceKind) (k : PlaceKind) → new ≡ ks ++ k �
 push_bytes ks new k is all byte =
     ap all_bytes (is ∙ ap (λ (x : PlaceKind). ks ++ x ∷ []) byte) ∙ all_bytes-push ks Byte ∙ all
 
-pub cooks_flow : (d₀ d₁ : Discipline ℕ) (b : ℕ) → is_flow d₀.termios (stripped d₀.termios b) ≡ true → d₁ ≡ flowed d₀ (stripped d₀.termios b)
+pub cooks_flow : (d₀ d₁ : Discipline ℕ) (b : ℕ) → is_flow d₀.termios (strip d₀.termios b) ≡ true → d₁ ≡ set_flow d₀ (strip d₀.termios b)
     → (d₁ ≡ (cook bytes d₀ b).0) × (let none : Option Sig = None in none ≡ (cook bytes d₀ b).1)
 unfolding cook
 cooks_flow d₀ d₁ b flow same = (rw flow same, rw flow refl)
 
-pub cooks : (d₀ d₁ : Discipline ℕ) (b : ℕ) (signal : Option Sig) → is_flow d₀.termios (stripped d₀.termios b) ≡ false
-    → signal ≡ signal_of d₀.termios (stripped d₀.termios b) → d₁ ≡ cook_by_case bytes d₀ (stripped d₀.termios b) signal
+pub cooks : (d₀ d₁ : Discipline ℕ) (b : ℕ) (signal : Option Sig) → is_flow d₀.termios (strip d₀.termios b) ≡ false
+    → signal ≡ signal_of d₀.termios (strip d₀.termios b) → d₁ ≡ cook_by_case bytes d₀ (strip d₀.termios b) signal
     → (d₁ ≡ (cook bytes d₀ b).0) × (signal ≡ (cook bytes d₀ b).1)
 unfolding cook
 cooks d₀ d₁ b signal flow is same =
-    (rw flow (same ∙ ap (cook_by_case bytes d₀ (stripped d₀.termios b)) is), rw flow is)
+    (rw flow (same ∙ ap (cook_by_case bytes d₀ (strip d₀.termios b)) is), rw flow is)
 
 -- What is read.
 
@@ -193,19 +202,21 @@ none_is_nil (x ∷ xs) none = cc
 
 -- what a read gives and leaves that does not wait
 pub record Reads (d : Discipline ℕ) (max : ℕ) (out : List ℕ) (left : Input ℕ) : Type 0 where
-  pub given_is : out ≡ given d max
-  pub left_is : left ≡ input_left d max
+  pub front_is : out ≡ front d max
+  pub rest_is : left ≡ input_after d max
   pub stays_bytes : d.termios.flags.icanon ≡ false → has_none left.ready ≡ true
 
 reads_by : (icanon : Bool) (d : Discipline ℕ) (max : ℕ) (out : List ℕ) (left : Input ℕ) → d.termios.flags.icanon ≡ icanon
     → (icanon ≡ false → has_none d.input.ready ≡ true) → waits d max ≡ false
-    → (has_none d.input.ready ≡ false → ReadsLine d.input max out left) → (has_none d.input.ready ≡ true → ReadsBytes d.input max out left) → Reads d max out left
+    → (has_none d.input.ready ≡ false → ReadsLine d.input max out left) → (has_none d.input.ready ≡ true → ReadsBytes d.input max out left)
+    → Reads d max out left
 reads_by true d max out left is bytes_only waiting line byte =
-    let some : has_none d.input.ready ≡ false = sym (ap (λ (t : Bool). if t then has_none d.input.ready else nat_lt (length d.input.current) (min d.termios.min max)) is) ∙ waiting in
+    let some : has_none d.input.ready ≡ false =
+    sym (ap (λ (t : Bool). if t then has_none d.input.ready else nat_lt (length d.input.current) (min d.termios.min max)) is) ∙ waiting in
     let read = line some in
     record {
-      given_is = rw is read.given_is;
-      left_is = rw is (same_input left _ _ read.ready_is read.current_is);
+      front_is = rw is read.front_is;
+      rest_is = rw is (same_input left _ _ read.ready_is read.current_is);
       stays_bytes = λ e. cc;
     }
 reads_by false d max out left is bytes_only waiting line byte =
@@ -213,12 +224,13 @@ reads_by false d max out left is bytes_only waiting line byte =
     let read = byte none in
     let nil = none_is_nil d.input.ready none in
     record {
-      given_is = rw is read.given_is;
-      left_is = rw (is, nil) read.left_is;
-      stays_bytes = λ e. rw read.left_is refl;
+      front_is = rw is read.front_is;
+      rest_is = rw (is, nil) read.rest_is;
+      stays_bytes = λ e. rw read.rest_is refl;
     }
 
-pub reads : (pool : PoolState) (s t : InputState) (d : Discipline ℕ) (max : ℕ) (out : List ℕ) → d.input ≡ input_of pool s → out ≡ (walk max (places_in pool s)).0
+pub reads : (pool : PoolState) (s t : InputState) (d : Discipline ℕ) (max : ℕ) (out : List ℕ) → d.input ≡ input_of pool s
+    → out ≡ (walk max (places_in pool s)).0
     → places_in pool t ≡ (walk max (places_in pool s)).1 → (d.termios.flags.icanon ≡ false → has_none (input_of pool s).ready ≡ true) → waits d max ≡ false
     → Reads d max out (input_of pool t)
 reads pool s t d max out is g l bytes_only waiting =
@@ -228,44 +240,45 @@ reads pool s t d max out is g l bytes_only waiting =
 
 -- What is written, byte by byte.
 
-pub fitting_more : (t : Termios) (room i : ℕ) (bs : List ℕ) → i < length bs → length (shown_byte t (get_or bs i 0)) ≤ room
-    → fitting t room (drop i bs) ≡ 1 + fitting t (room - length (shown_byte t (get_or bs i 0))) (drop (i + 1) bs)
-fitting_more t room i bs inside fits =
+pub fit_count_more : (t : Termios) (room i : ℕ) (bs : List ℕ) → i < length bs → length (shown_byte t (get_or bs i 0)) ≤ room
+    → fit_count t room (drop i bs) ≡ 1 + fit_count t (room - length (shown_byte t (get_or bs i 0))) (drop (i + 1) bs)
+fit_count_more t room i bs inside fits =
     let test : nat_le (length (shown_byte t (get_or bs i 0))) room ≡ true = grind (arith, nat_tests) in
     rw (add-one, drop-cons bs i 0, test) refl
 
-pub fitting_stops : (t : Termios) (room i : ℕ) (bs : List ℕ) → i < length bs → room < length (shown_byte t (get_or bs i 0)) → fitting t room (drop i bs) ≡ 0
-fitting_stops t room i bs inside fits =
+pub fit_count_stops : (t : Termios) (room i : ℕ) (bs : List ℕ) → i < length bs → room < length (shown_byte t (get_or bs i 0)) → fit_count t room (drop i bs) ≡ 0
+fit_count_stops t room i bs inside fits =
     let test : nat_le (length (shown_byte t (get_or bs i 0))) room ≡ false = grind (arith, nat_tests) in
     rw (drop-cons bs i 0, test) refl
 
 pub shown_more : (t : Termios) (i : ℕ) (bs : List ℕ) → i < length bs → shown t (take (i + 1) bs) ≡ shown t (take i bs) ++ shown_byte t (get_or bs i 0)
 shown_more t i bs inside =
-    ap (shown t) (take_more bs i 0 inside) ∙ flat_map-append (shown_byte t) (take i bs) (get_or bs i 0 ∷ []) ∙ ap (λ (xs : List ℕ). shown t (take i bs) ++ xs) (append-nil (shown_byte t (get_or bs i 0)))
+    ap (shown t) (take_more bs i 0 inside) ∙ flat_map-append (shown_byte t) (take i bs) (get_or bs i 0 ∷ [])
+    ∙ ap (λ (xs : List ℕ). shown t (take i bs) ++ xs) (append-nil (shown_byte t (get_or bs i 0)))
 
 fits_where : (test : Bool) (t : Termios) (room : ℕ) (b : ℕ) (bs : List ℕ) → nat_le (length (shown_byte t b)) room ≡ test
-    → length (shown t (take (fitting t (room - length (shown_byte t b)) bs) bs)) ≤ room - length (shown_byte t b)
-    → length (shown t (take (if test then 1 + fitting t (room - length (shown_byte t b)) bs else 0) (b ∷ bs))) ≤ room
+    → length (shown t (take (fit_count t (room - length (shown_byte t b)) bs) bs)) ≤ room - length (shown_byte t b)
+    → length (shown t (take (if test then 1 + fit_count t (room - length (shown_byte t b)) bs else 0) (b ∷ bs))) ≤ room
 fits_where true t room b bs is rest =
-    let n : ℕ = fitting t (room - length (shown_byte t b)) bs in
-    let more : 1 + fitting t (room - length (shown_byte t b)) bs ≡ suc (fitting t (room - length (shown_byte t b)) bs) = omega arith in
+    let n : ℕ = fit_count t (room - length (shown_byte t b)) bs in
+    let more : 1 + fit_count t (room - length (shown_byte t b)) bs ≡ suc (fit_count t (room - length (shown_byte t b)) bs) = omega arith in
     let fits : length (shown_byte t b) ≤ room = grind (arith, nat_tests) in
-    let joined = length-append (shown_byte t b) (shown t (take (fitting t (room - length (shown_byte t b)) bs) bs)) in
+    let joined = length-append (shown_byte t b) (shown t (take (fit_count t (room - length (shown_byte t b)) bs) bs)) in
     rw more (omega (arith, joined, rest, fits))
 fits_where false t room b bs is rest = omega arith
 
-pub fitting_fits : (t : Termios) (room : ℕ) (bs : List ℕ) → length (shown t (take (fitting t room bs) bs)) ≤ room
-fitting_fits t room [] = omega arith
-fitting_fits t room (b ∷ bs) =
-    fits_where (nat_le (length (shown_byte t b)) room) t room b bs refl (fitting_fits t (room - length (shown_byte t b)) bs)
+pub fit_count_fits : (t : Termios) (room : ℕ) (bs : List ℕ) → length (shown t (take (fit_count t room bs) bs)) ≤ room
+fit_count_fits t room [] = omega arith
+fit_count_fits t room (b ∷ bs) =
+    fits_where (nat_le (length (shown_byte t b)) room) t room b bs refl (fit_count_fits t (room - length (shown_byte t b)) bs)
 
-pub fitting_all : (t : Termios) (room : ℕ) (bs : List ℕ) → length (shown t bs) ≤ room → fitting t room bs ≡ length bs
-fitting_all t room [] fits = refl
-fitting_all t room (b ∷ bs) fits =
+pub fit_count_all : (t : Termios) (room : ℕ) (bs : List ℕ) → length (shown t bs) ≤ room → fit_count t room bs ≡ length bs
+fit_count_all t room [] fits = refl
+fit_count_all t room (b ∷ bs) fits =
     let joined = length-append (shown_byte t b) (shown t bs) in
     let here : length (shown_byte t b) ≤ room = omega (arith, joined, fits) in
     let test : nat_le (length (shown_byte t b)) room ≡ true = grind (arith, nat_tests) in
-    let rest = fitting_all t (room - length (shown_byte t b)) bs (omega (arith, joined, fits)) in
+    let rest = fit_count_all t (room - length (shown_byte t b)) bs (omega (arith, joined, fits)) in
     rw test (omega (arith, rest))
 
 -- what is written to other blocks leaves a discipline

@@ -1,5 +1,6 @@
 -- The lines of an input queue, read over its pool.
-use Rattle.std.proofs.Common.{◌≡◌, ℕ, zero, ◌+◌, ◌-◌, ◌<◌, ◌≤◌, Bool, true, false, not, List, [], ◌∷◌, ◌++◌, length, min, sym, refl, ap, ◌∙◌, arith, length-append, inl, inr}
+use Rattle.std.proofs.Common.{◌≡◌, ℕ, zero, ◌+◌, ◌-◌, ◌<◌, ◌≤◌, Bool, true, false, not, List, [], ◌∷◌, ◌++◌, length, min, sym, refl, ap, ◌∙◌, arith}
+use Rattle.std.proofs.Common.{length-append, inl, inr}
 use Rattle.std.specs.Prelude.{◌↔◌, ◌⊎◌, if◌then◌else◌, nat_lt, option_to_list, Option, Some, None}
 use Rattle.std.specs.List.{zip}
 use Rattle.std.specs.Option.{option_zip}
@@ -12,8 +13,15 @@ use Rattle.line_disc.specs.Discipline.{Input, no_input, places, all_cells}
 use Rattle.line_disc.specs.Transfers.{has_none, as_line}
 use Rattle.line_disc.specs.declared.place.PlaceKind.{PlaceKind}
 use Rattle.line_disc.specs.declared.place.PlaceKind.TheVariants.{Byte, LineEnd, FileEnd}
-use Rattle.line_disc.specs.Places.{InputState, IsWholeInput, with_back, lines_of, all_bytes, current_places, current_behind, places_in, input_of, walk, begins_with_mark}
-use Rattle.line_disc.proofs.LineLemmas.{zip_push, lines_of-push, lines_of-bytes, lines_of-ended, lines_of-kept, has_none-lines_of, length-current, places-lines_of, all_bytes-push, current_places-push, current_places-all, current_places-le, current_places-less, ReadsLine, walk_line, ReadsBytes, walk_bytes, walk_mark, walk_no_mark, turned_round, turned_round_whole}
+use Rattle.line_disc.specs.Places.{InputState, IsWholeInput, with_back, lines_of, all_bytes, current_places, current_behind, places_in, input_of, walk}
+use Rattle.line_disc.specs.Places.{begins_with_mark}
+use Rattle.line_disc.proofs.LineLemmas.{zip_push, lines_of-push, lines_of-bytes, lines_of-ended, lines_of-kept, has_none-lines_of, length-current}
+use Rattle.line_disc.proofs.LineLemmas.{places-lines_of, all_bytes-push, current_places-push, current_places-all, current_places-le, current_places-less}
+use Rattle.line_disc.proofs.LineLemmas.{ReadsLine, walk_line, ReadsBytes, walk_bytes, walk_mark, walk_no_mark, turned_round, turned_round_whole}
+
+-- what contracts see of an input queue with this chain and these kinds
+abbrev pub input_state : ChainState → List PlaceKind → InputState
+input_state chain kinds = record { chain = chain; kinds = kinds }
 
 -- an input queue has a byte for each place
 pub length-bytes : (pool : PoolState) (s : InputState) → s.chain.count ≡ length s.kinds → length s.kinds ≡ length (holds pool s.chain)
@@ -90,7 +98,8 @@ length-front : {A : Type 0} (o : Option A) (xs : List A) → length (option_to_l
 length-front o xs = length-append (option_to_list o) xs
 
 -- both are there, or neither
-paired : (pool : PoolState) (s t : InputState) (k : Option PlaceKind) (b : Option ℕ) → s.chain.count ≡ length s.kinds → PopsFront pool s t k b → (b ≡ None) ↔ (holds pool s.chain ≡ [])
+paired : (pool : PoolState) (s t : InputState) (k : Option PlaceKind) (b : Option ℕ) → s.chain.count ≡ length s.kinds → PopsFront pool s t k b
+    → (b ≡ None) ↔ (holds pool s.chain ≡ [])
     → ((k ≡ None) × (b ≡ None)) ⊎ ((kind : PlaceKind) × (byte : ℕ) × (k ≡ Some kind) × (b ≡ Some byte))
 paired pool s t None None many pops no_byte = inl (refl, refl)
 paired pool s t (Some kind) (Some byte) many pops no_byte = inr (kind, byte, refl, refl)
@@ -158,7 +167,8 @@ none_in-pop pool s t k b many pops no_byte = elim (paired pool s t k b many pops
   | inl none ↦ (λ e. rw (pops.no_kind.0 none.0) refl, λ e. rw none.0 refl)
   | inr some ↦ (
     λ e. let both : option_zip k b ≡ Some (some.0, some.1) = rw (some.2, some.3) refl in cc,
-    λ e. let front : zip s.kinds (holds pool s.chain) ≡ (some.0, some.1) ∷ zip t.kinds (holds pool t.chain) = rw (pops.kinds, pops.held, some.2, some.3) refl in cc,
+    λ e. let front : zip s.kinds (holds pool s.chain) ≡ (some.0, some.1) ∷ zip t.kinds (holds pool t.chain) = rw (pops.kinds, pops.held, some.2, some.3) refl in
+        cc,
   )
 ]
 
@@ -201,7 +211,8 @@ pub record TakesLast (pool : PoolState) (s t : InputState) (b : Option ℕ) (cou
   pub current : (input_of pool s).current ≡ (input_of pool t).current ++ option_to_list b
   pub bytes : all_bytes s.kinds ≡ true → all_bytes t.kinds ≡ true
 
-pub takes_last : (pool : PoolState) (s t : InputState) (k : Option PlaceKind) (b : Option ℕ) (counted : ℕ) → IsWholeInput s counted → 0 < counted → PopsBack pool s t k b
+pub takes_last : (pool : PoolState) (s t : InputState) (k : Option PlaceKind) (b : Option ℕ) (counted : ℕ) → IsWholeInput s counted → 0 < counted
+    → PopsBack pool s t k b
     → TakesLast pool s t b counted
 takes_last pool s t None b counted whole some pops =
     let none = ap current_places (pops.no_kind.0 refl) in absurd (omega (arith, none, whole.current))
@@ -258,23 +269,23 @@ ends_current pool s t ks Byte many all old new chain =
 
 -- What is read and joined, place by place.
 
-pub reads_line : (pool : PoolState) (s t : InputState) (max : ℕ) (given : List ℕ) → given ≡ (walk max (places_in pool s)).0
-    → places_in pool t ≡ (walk max (places_in pool s)).1 → has_none (input_of pool s).ready ≡ false → ReadsLine (input_of pool s) max given (input_of pool t)
+pub reads_line : (pool : PoolState) (s t : InputState) (max : ℕ) (cells : List ℕ) → cells ≡ (walk max (places_in pool s)).0
+    → places_in pool t ≡ (walk max (places_in pool s)).1 → has_none (input_of pool s).ready ≡ false → ReadsLine (input_of pool s) max cells (input_of pool t)
 unfolding input_of
-reads_line pool s t max given g l some =
+reads_line pool s t max cells g l some =
     let read = walk_line (places_in pool s) max some in
     record {
-      given_is = g ∙ read.given_is;
+      front_is = g ∙ read.front_is;
       ready_is = ap (λ ps. (lines_of ps).ready) l ∙ read.ready_is;
       current_is = ap (λ ps. (lines_of ps).current) l ∙ read.current_is;
     }
 
-pub reads_bytes : (pool : PoolState) (s t : InputState) (max : ℕ) (given : List ℕ) → given ≡ (walk max (places_in pool s)).0
-    → places_in pool t ≡ (walk max (places_in pool s)).1 → has_none (input_of pool s).ready ≡ true → ReadsBytes (input_of pool s) max given (input_of pool t)
+pub reads_bytes : (pool : PoolState) (s t : InputState) (max : ℕ) (cells : List ℕ) → cells ≡ (walk max (places_in pool s)).0
+    → places_in pool t ≡ (walk max (places_in pool s)).1 → has_none (input_of pool s).ready ≡ true → ReadsBytes (input_of pool s) max cells (input_of pool t)
 unfolding input_of
-reads_bytes pool s t max given g l none =
+reads_bytes pool s t max cells g l none =
     let read = walk_bytes (places_in pool s) max none in
-    record { given_is = g ∙ read.given_is; left_is = ap lines_of l ∙ read.left_is }
+    record { front_is = g ∙ read.front_is; rest_is = ap lines_of l ∙ read.rest_is }
 
 pub joins : (pool new : PoolState) (s t : InputState) (n : ℕ) → n ≡ length (places_in pool s) → places_in new t ≡ turned_round n (places_in pool s)
     → input_of new t ≡ record { ready = []; current = all_cells (input_of pool s) }

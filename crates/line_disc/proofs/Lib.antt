@@ -2,4 +2,9 @@ pub mod PlaceLemmas
 pub mod LineLemmas
 pub mod InputLemmas
 pub mod DiscLemmas
-mod WorkedRows
+pub mod MapLemmas
+pub mod TransferMapLemmas
+pub mod DeviceMapLemmas
+pub mod WorkedRows
+mod CaseRows
+mod DeviceRows

@@ -1,16 +1,18 @@
 -- The lines that places hold.
-use Rattle.std.proofs.Common.{◌≡◌, ℕ, zero, suc, ◌+◌, ◌-◌, ◌<◌, ◌≤◌, Bool, true, false, List, [], ◌∷◌, ◌++◌, length, take, drop, sym, refl, ap, ◌∙◌, arith, append_assoc, append-nil}
+use Rattle.std.proofs.Common.{◌≡◌, ℕ, zero, suc, ◌+◌, ◌-◌, ◌<◌, ◌≤◌, Bool, true, false, List, [], ◌∷◌, ◌++◌, length, take, drop, sym, refl, ap, ◌∙◌, arith}
+use Rattle.std.proofs.Common.{append_assoc, append-nil}
 use Rattle.std.proofs.lemmas.List.Sums.{sum_by-cons}
 use Rattle.std.specs.Prelude.{◌↔◌, if◌then◌else◌, option_to_list, Option, Some, None}
 use Rattle.std.specs.List.{zip}
 use Rattle.line_disc.specs.Discipline.{ReadyLine, Input, no_input, places, line_places, all_cells}
-use Rattle.line_disc.specs.Transfers.{has_none, given_of, left_of, as_line}
+use Rattle.line_disc.specs.Transfers.{has_none, front_of, lines_after, as_line}
 use Rattle.line_disc.specs.declared.place.PlaceKind.{PlaceKind}
 use Rattle.line_disc.specs.declared.place.PlaceKind.TheVariants.{Byte, LineEnd, FileEnd}
 use Rattle.line_disc.specs.Places.{with_front, with_place, with_back, lines_of, is_byte, all_bytes, current_places, current_behind, walk, begins_with_mark}
 
 -- places with one more behind
-pub zip_push : (ks : List PlaceKind) (bs : List ℕ) (k : PlaceKind) (b : ℕ) → length ks ≡ length bs → zip (ks ++ k ∷ []) (bs ++ b ∷ []) ≡ zip ks bs ++ (k, b) ∷ []
+pub zip_push : (ks : List PlaceKind) (bs : List ℕ) (k : PlaceKind) (b : ℕ) → length ks ≡ length bs
+    → zip (ks ++ k ∷ []) (bs ++ b ∷ []) ≡ zip ks bs ++ (k, b) ∷ []
 zip_push [] [] k b same = refl
 zip_push [] (x ∷ bs) k b same = absurd (omega (arith, same))
 zip_push (x ∷ ks) [] k b same = absurd (omega (arith, same))
@@ -18,7 +20,8 @@ zip_push (x ∷ ks) (y ∷ bs) k b same = ap (λ (ps : List (PlaceKind × ℕ)).
 
 -- a place in front and one behind may be taken in either order
 with_place_back : (p k : PlaceKind) (x b : ℕ) (ready : List (ReadyLine ℕ)) (current : List ℕ)
-    → with_place p x (with_back k b (record { ready = ready; current = current })) ≡ with_back k b (with_place p x (record { ready = ready; current = current }))
+    → with_place p x (with_back k b (record { ready = ready; current = current }))
+    ≡ with_back k b (with_place p x (record { ready = ready; current = current }))
 with_place_back Byte Byte x b [] current = refl
 with_place_back Byte Byte x b (line ∷ lines) current = refl
 with_place_back Byte LineEnd x b [] current = refl
@@ -44,7 +47,8 @@ lines_of-push (p ∷ ps) k b =
     ap (with_place p.0 p.1) (lines_of-push ps k b) ∙ with_place_back p.0 k p.1 b (lines_of ps).ready (lines_of ps).current
 
 -- where each place holds a byte of no ready line, all is the current line
-pub lines_of-bytes : (ks : List PlaceKind) (bs : List ℕ) → length ks ≡ length bs → all_bytes ks ≡ true → lines_of (zip ks bs) ≡ record { ready = []; current = bs }
+pub lines_of-bytes : (ks : List PlaceKind) (bs : List ℕ) → length ks ≡ length bs → all_bytes ks ≡ true
+    → lines_of (zip ks bs) ≡ record { ready = []; current = bs }
 lines_of-bytes [] [] same all = refl
 lines_of-bytes [] (b ∷ bs) same all = absurd (omega (arith, same))
 lines_of-bytes (k ∷ ks) [] same all = absurd (omega (arith, same))
@@ -168,7 +172,8 @@ tail_where true n = omega arith
 tail_where false n = refl
 
 -- without its first place, a current line that had all places has one less
-pub current_places-tail : (k : PlaceKind) (ks : List PlaceKind) → current_places ks ≡ (if all_bytes (k ∷ ks) then current_places (k ∷ ks) - 1 else current_places (k ∷ ks))
+pub current_places-tail : (k : PlaceKind) (ks : List PlaceKind)
+    → current_places ks ≡ (if all_bytes (k ∷ ks) then current_places (k ∷ ks) - 1 else current_places (k ∷ ks))
 current_places-tail Byte ks = tail_where (all_bytes ks) (current_places ks)
 current_places-tail LineEnd ks = refl
 current_places-tail FileEnd ks = refl
@@ -185,74 +190,78 @@ drop_none (suc n) = refl
 
 -- a byte in front of ready lines is read first
 front_read : (b n : ℕ) (ready : List (ReadyLine ℕ)) (current : List ℕ) → has_none ready ≡ false
-    → (given_of (suc n) (with_front b ready current).ready ≡ b ∷ given_of n ready) × (left_of (suc n) (with_front b ready current).ready ≡ left_of n ready)
+    → (front_of (suc n) (with_front b ready current).ready ≡ b ∷ front_of n ready)
+    × (lines_after (suc n) (with_front b ready current).ready ≡ lines_after n ready)
     × ((with_front b ready current).current ≡ current)
 front_read b n [] current some = cc
 front_read b n (line ∷ lines) current some = (refl, refl, refl)
 
 -- a read of nothing leaves a line that has a byte
 front_left : (b : ℕ) (ready : List (ReadyLine ℕ)) (current : List ℕ) → has_none ready ≡ false
-    → (given_of zero (with_front b ready current).ready ≡ []) × ((with_front b ready current).ready ≡ left_of zero (with_front b ready current).ready)
+    → (front_of zero (with_front b ready current).ready ≡ []) × ((with_front b ready current).ready ≡ lines_after zero (with_front b ready current).ready)
 front_left b [] current some = cc
 front_left b (line ∷ lines) current some = (refl, refl)
 
 -- what a read of a ready line gives and leaves
-pub record ReadsLine (input : Input ℕ) (max : ℕ) (given : List ℕ) (left : Input ℕ) : Type 0 where
-  pub given_is : given ≡ given_of max input.ready
-  pub ready_is : left.ready ≡ left_of max input.ready
-  pub current_is : left.current ≡ input.current
+pub record ReadsLine (input : Input ℕ) (max : ℕ) (cells : List ℕ) (rest : Input ℕ) : Type 0 where
+  pub front_is : cells ≡ front_of max input.ready
+  pub ready_is : rest.ready ≡ lines_after max input.ready
+  pub current_is : rest.current ≡ input.current
 
-pub walk_line : (ps : List (PlaceKind × ℕ)) (max : ℕ) → has_none (lines_of ps).ready ≡ false → ReadsLine (lines_of ps) max (walk max ps).0 (lines_of (walk max ps).1)
+pub walk_line : (ps : List (PlaceKind × ℕ)) (max : ℕ) → has_none (lines_of ps).ready ≡ false
+    → ReadsLine (lines_of ps) max (walk max ps).0 (lines_of (walk max ps).1)
 walk_line [] max some = cc
-walk_line ((FileEnd, b) ∷ ps) zero some = record { given_is = refl; ready_is = refl; current_is = refl }
-walk_line ((FileEnd, b) ∷ ps) (suc n) some = record { given_is = refl; ready_is = refl; current_is = refl }
-walk_line ((LineEnd, b) ∷ ps) zero some = record { given_is = refl; ready_is = refl; current_is = refl }
+walk_line ((FileEnd, b) ∷ ps) zero some = record { front_is = refl; ready_is = refl; current_is = refl }
+walk_line ((FileEnd, b) ∷ ps) (suc n) some = record { front_is = refl; ready_is = refl; current_is = refl }
+walk_line ((LineEnd, b) ∷ ps) zero some = record { front_is = refl; ready_is = refl; current_is = refl }
 walk_line ((LineEnd, b) ∷ ps) (suc n) some = record {
-  given_is = ap (λ (xs : List ℕ). b ∷ xs) (sym (take_none n));
+  front_is = ap (λ (xs : List ℕ). b ∷ xs) (sym (take_none n));
   ready_is = rw (drop_none n) refl;
   current_is = refl;
 }
 walk_line ((Byte, b) ∷ ps) zero some =
     let inner = sym (has_none-front b (lines_of ps).ready (lines_of ps).current) ∙ some in
     let left = front_left b (lines_of ps).ready (lines_of ps).current inner in
-    record { given_is = sym left.0; ready_is = left.1; current_is = refl }
+    record { front_is = sym left.0; ready_is = left.1; current_is = refl }
 walk_line ((Byte, b) ∷ ps) (suc n) some =
     let inner = sym (has_none-front b (lines_of ps).ready (lines_of ps).current) ∙ some in
     let front = front_read b n (lines_of ps).ready (lines_of ps).current inner in
     let rest = walk_line ps n inner in
     record {
-      given_is = ap (λ (xs : List ℕ). b ∷ xs) rest.given_is ∙ sym front.0;
+      front_is = ap (λ (xs : List ℕ). b ∷ xs) rest.front_is ∙ sym front.0;
       ready_is = rest.ready_is ∙ sym front.1;
       current_is = rest.current_is ∙ sym front.2;
     }
 
-front_none : (b : ℕ) (ready : List (ReadyLine ℕ)) (current : List ℕ) → has_none ready ≡ true → with_front b ready current ≡ record { ready = []; current = b ∷ current }
+front_none : (b : ℕ) (ready : List (ReadyLine ℕ)) (current : List ℕ) → has_none ready ≡ true
+    → with_front b ready current ≡ record { ready = []; current = b ∷ current }
 front_none b [] current none = refl
 front_none b (line ∷ lines) current none = cc
 
 -- where no line is ready, a read gives bytes of the current line
-pub record ReadsBytes (input : Input ℕ) (max : ℕ) (given : List ℕ) (left : Input ℕ) : Type 0 where
-  pub given_is : given ≡ take max input.current
-  pub left_is : left ≡ record { ready = []; current = drop max input.current }
+pub record ReadsBytes (input : Input ℕ) (max : ℕ) (cells : List ℕ) (rest : Input ℕ) : Type 0 where
+  pub front_is : cells ≡ take max input.current
+  pub rest_is : rest ≡ record { ready = []; current = drop max input.current }
 
-pub walk_bytes : (ps : List (PlaceKind × ℕ)) (max : ℕ) → has_none (lines_of ps).ready ≡ true → ReadsBytes (lines_of ps) max (walk max ps).0 (lines_of (walk max ps).1)
+pub walk_bytes : (ps : List (PlaceKind × ℕ)) (max : ℕ) → has_none (lines_of ps).ready ≡ true
+    → ReadsBytes (lines_of ps) max (walk max ps).0 (lines_of (walk max ps).1)
 walk_bytes [] max none = record {
-  given_is = sym (take_none max);
-  left_is = ap (λ (xs : List ℕ). record { ready = []; current = xs }) (sym (drop_none max));
+  front_is = sym (take_none max);
+  rest_is = ap (λ (xs : List ℕ). record { ready = []; current = xs }) (sym (drop_none max));
 }
 walk_bytes ((FileEnd, b) ∷ ps) max none = cc
 walk_bytes ((LineEnd, b) ∷ ps) max none = cc
 walk_bytes ((Byte, b) ∷ ps) zero none =
     let inner = sym (has_none-front b (lines_of ps).ready (lines_of ps).current) ∙ none in
     let front = front_none b (lines_of ps).ready (lines_of ps).current inner in
-    record { given_is = refl; left_is = front ∙ ap (λ (i : Input ℕ). record { ready = []; current = i.current }) (sym front) }
+    record { front_is = refl; rest_is = front ∙ ap (λ (i : Input ℕ). record { ready = []; current = i.current }) (sym front) }
 walk_bytes ((Byte, b) ∷ ps) (suc n) none =
     let inner = sym (has_none-front b (lines_of ps).ready (lines_of ps).current) ∙ none in
     let front = front_none b (lines_of ps).ready (lines_of ps).current inner in
     let rest = walk_bytes ps n inner in
     record {
-      given_is = ap (λ (xs : List ℕ). b ∷ xs) rest.given_is ∙ ap (λ (i : Input ℕ). take (suc n) i.current) (sym front);
-      left_is = rest.left_is ∙ ap (λ (i : Input ℕ). record { ready = []; current = drop (suc n) i.current }) (sym front);
+      front_is = ap (λ (xs : List ℕ). b ∷ xs) rest.front_is ∙ ap (λ (i : Input ℕ). take (suc n) i.current) (sym front);
+      rest_is = rest.rest_is ∙ ap (λ (i : Input ℕ). record { ready = []; current = drop (suc n) i.current }) (sym front);
     }
 
 -- What is joined.
@@ -340,7 +349,8 @@ walk_no_mark (Byte ∷ ks) (b ∷ bs) same none = refl
 walk_no_mark (LineEnd ∷ ks) (b ∷ bs) same none = refl
 walk_no_mark (FileEnd ∷ ks) (b ∷ bs) same none = cc
 
-pub walk_mark : (ks : List PlaceKind) (bs : List ℕ) (rest : List (PlaceKind × ℕ)) (p : Option (PlaceKind × ℕ)) → length ks ≡ length bs → begins_with_mark ks ≡ true
+pub walk_mark : (ks : List PlaceKind) (bs : List ℕ) (rest : List (PlaceKind × ℕ)) (p : Option (PlaceKind × ℕ)) → length ks ≡ length bs
+    → begins_with_mark ks ≡ true
     → zip ks bs ≡ option_to_list p ++ rest → (p ≡ None) ↔ (zip ks bs ≡ []) → rest ≡ (walk zero (zip ks bs)).1
 walk_mark [] bs rest p same mark pops none = cc
 walk_mark (k ∷ ks) [] rest p same mark pops none = absurd (omega (arith, same))

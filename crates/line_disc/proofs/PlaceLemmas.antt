@@ -1,5 +1,6 @@
 -- What places hold, in a circle of 1,024 bits.
-use Rattle.std.proofs.Common.{◌≡◌, ℕ, zero, suc, ◌+◌, ◌-◌, ◌*◌, ◌/◌, ◌%◌, ◌^◌, ◌<◌, ◌≤◌, ◌≢◌, ◌⊎◌, inl, inr, Bool, true, false, eqb, List, [], ◌∷◌, ◌++◌, length, get_or, set, map, sym, refl, ap, ap₂, ◌∙◌, arith, mod-eq_of_lt, get_or-set_same, get_or-set_other}
+use Rattle.std.proofs.Common.{◌≡◌, ℕ, zero, suc, ◌+◌, ◌-◌, ◌*◌, ◌/◌, ◌%◌, ◌^◌, ◌<◌, ◌≤◌, ◌≢◌, ◌⊎◌, inl, inr, Bool, true, false, eqb, List, [], ◌∷◌, ◌++◌}
+use Rattle.std.proofs.Common.{length, get_or, set, map, sym, refl, ap, ap₂, ◌∙◌, arith, mod-eq_of_lt, get_or-set_same, get_or-set_other}
 use Rattle.std.specs.Prelude.{bit_or, bit_and, if◌then◌else◌, ◌==◌}
 use Rattle.std.specs.List.{range_with_len}
 use Rattle.std.specs.Int.{bit_not, w64}
@@ -45,7 +46,8 @@ clear_bit words n known len m other = elim (cases_eq (m / 64) (n / 64)) [
             rw (same_word, same_bit, at, bit_at_clear_same w64 (get_or words (n / 64) 0) (n % 64) (omega arith), equal) refl
         | inr other_bit ↦
             let unequal : eqb m n ≡ false = ne_eqb m n (λ e. other_bit (ap (λ k. k % 64) e)) in
-            rw (same_word, at, bit_at_clear_other w64 (get_or words (n / 64) 0) (n % 64) (omega arith) (m % 64) (omega arith) other_bit, unequal, sym same_word) refl
+            rw (same_word, at, bit_at_clear_other w64 (get_or words (n / 64) 0) (n % 64) (omega arith) (m % 64) (omega arith) other_bit, unequal, sym same_word)
+            refl
       ]
   | inr other_word ↦
       let unequal : eqb m n ≡ false = ne_eqb m n (λ e. other_word (ap (λ k. k / 64) e)) in

@@ -2,7 +2,7 @@
 --
 -- The queues hold cells, and a cell has a byte. In a device a cell is its byte. Where it matters from which event a byte
 -- came, cells hold that too: each definition is for any type of cell.
-use Rattle.std.specs.Prelude.{ℕ, ◌+◌, Bool, false, List, [], ◌++◌, length, sum_by, if◌then◌else◌}
+use Rattle.std.specs.Prelude.{ℕ, ◌+◌, Bool, false, List, [], ◌++◌, length, map, sum_by, if◌then◌else◌}
 use Rattle.std.specs.List.{flat_map}
 use Rattle.termios_core.specs.declared.termios.Termios.{Termios}
 
@@ -52,3 +52,13 @@ places input = sum_by line_places input.ready + length input.current
 -- all cells that have come in, without the ends of lines
 abbrev pub all_cells : {C : Type 0} → Input C → List C
 all_cells input = flat_map (λ line. line.cells) input.ready ++ input.current
+
+-- the same, with something else for each cell
+abbrev pub map_ready : {B C : Type 0} → (B → C) → ReadyLine B → ReadyLine C
+map_ready f line = record { cells = map f line.cells; marked = line.marked }
+
+abbrev pub map_input : {B C : Type 0} → (B → C) → Input B → Input C
+map_input f input = record { ready = map (map_ready f) input.ready; current = map f input.current }
+
+abbrev pub map_discipline : {B C : Type 0} → (B → C) → Discipline B → Discipline C
+map_discipline f d = record { termios = d.termios; input = map_input f d.input; output = map f d.output; stopped = d.stopped }

@@ -29,13 +29,13 @@ abbrev pub is_drawn : ℕ → Bool
 is_drawn b = (nat_lt b 32 && not (b == 9) && not (b == newline)) || (b == 127)
 
 -- how a byte is echoed (echoctl)
-abbrev pub drawn : Termios → ℕ → List ℕ
-drawn t b = if t.flags.echoctl && is_drawn b then 94 ∷ bit_xor b 64 ∷ [] else b ∷ []
+abbrev pub draw : Termios → ℕ → List ℕ
+draw t b = if t.flags.echoctl && is_drawn b then 94 ∷ bit_xor b 64 ∷ [] else b ∷ []
 
 -- the echo of a byte that came in (echo, echonl)
 abbrev pub echo : Termios → ℕ → List ℕ
 echo t b =
-    if t.flags.echo then drawn t b
+    if t.flags.echo then draw t b
     else (if t.flags.echonl && t.flags.icanon && (b == newline) then newline ∷ [] else [])
 
 -- how many columns of the screen a byte took that was echoed
@@ -54,8 +54,8 @@ wipes _ = wipe ++ wipe
 
 -- the echo of ERASE, which took a byte away (echoe)
 abbrev pub erase_echo : Termios → ℕ → ℕ → List ℕ
-erase_echo t b removed = if t.flags.echo then (if t.flags.echoe then wipes (columns t removed) else drawn t b) else []
+erase_echo t b removed = if t.flags.echo then (if t.flags.echoe then wipes (columns t removed) else draw t b) else []
 
 -- the echo of KILL (echok)
-abbrev pub kill_echo : Termios → ℕ → List ℕ
-kill_echo t b = if t.flags.echo then (if t.flags.echok then drawn t b ++ newline ∷ [] else drawn t b) else []
+abbrev pub drop_line_echo : Termios → ℕ → List ℕ
+drop_line_echo t b = if t.flags.echo then (if t.flags.echok then draw t b ++ newline ∷ [] else draw t b) else []

@@ -5,7 +5,7 @@ use Rattle.std.specs.Int.{bit_at}
 use Rattle.block_pool.specs.Pool.{PoolState}
 use Rattle.block_pool.specs.Chain.{ChainState, holds}
 use Rattle.line_disc.specs.Discipline.{ReadyLine, Input, no_input}
-use Rattle.line_disc.specs.Cook.{made_ready}
+use Rattle.line_disc.specs.Cook.{make_ready}
 use Rattle.line_disc.specs.declared.place.PlaceKind.{PlaceKind}
 use Rattle.line_disc.specs.declared.place.PlaceKind.TheVariants.{Byte, LineEnd, FileEnd}
 
@@ -65,8 +65,8 @@ is_file_end FileEnd = true
 -- the lines of places with one more behind
 abbrev pub with_back : PlaceKind → ℕ → Input ℕ → Input ℕ
 with_back Byte b input = record { ready = input.ready; current = input.current ++ b ∷ [] }
-with_back LineEnd b input = made_ready input (input.current ++ b ∷ []) false
-with_back FileEnd b input = made_ready input input.current true
+with_back LineEnd b input = make_ready input (input.current ++ b ∷ []) false
+with_back FileEnd b input = make_ready input input.current true
 
 -- what contracts see of an input queue: the chain of the bytes of its places, and what each place holds
 pub record InputState : Type 0 where

@@ -4,12 +4,13 @@ ghost use Rattle.sys_types.specs.declared.limits.TheConstants.{INPUT_PLACES, PIE
 ghost use Rattle.block_pool.specs.Pool.{PoolState, AreOf, WritesTo};
 ghost use Rattle.line_disc.specs.Echo.{newline, is_char};
 ghost use Rattle.line_disc.specs.Discipline.{bytes, fresh};
-ghost use Rattle.line_disc.specs.Cook.{put_whole, stripped, is_flow, flushed, interrupted, signal_of, mapped, erased, killed, is_full, file_ended, line_ended, is_long, added, entered, entered_as, cook_by_case, cook};
-ghost use Rattle.line_disc.specs.Transfers.{has_none, waits, read, after_read, put_count, put, sent, after_take, is_takeable, is_drained, retuned};
+ghost use Rattle.line_disc.specs.Cook.{put_whole, strip, is_flow, flush, interrupt, signal_of, translate, erase, drop_line, is_full, end_file, end_line};
+ghost use Rattle.line_disc.specs.Cook.{is_long, add_byte, enter, enter_as, cook_by_case, cook};
+ghost use Rattle.line_disc.specs.Transfers.{has_none, waits, read, after_read, put_count, put, output_front, after_take, is_takeable, is_drained, retune};
 ghost use Rattle.line_disc.specs.Places.{with_back, input_of, all_bytes};
 ghost use Rattle.line_disc.specs.Disc.{DiscState, discipline_of, blocks_of, KeepsBlocks};
 
-use crate::echo::{Echo, echo, erase_echo, is_char, kill_echo, shown};
+use crate::echo::{Echo, drop_line_echo, echo, erase_echo, is_char, shown};
 use crate::input::Input;
 use crate::place::PlaceKind;
 use crate::transfer::{append, append_shown, take_front};
@@ -42,8 +43,8 @@ impl Model for Disc {
 }
 
 /// A byte as istrip reads it.
-fn stripped(termios: &Termios, byte: u8) -> u8
-    ensures { result ≡ stripped termios.now byte }
+fn strip(termios: &Termios, byte: u8) -> u8
+    ensures { result ≡ strip termios.now byte }
 {
     if termios.flags.istrip {
         byte % 128
@@ -79,8 +80,8 @@ fn signal_of(termios: &Termios, byte: u8) -> Option<Sig>
 }
 
 /// What a byte is read as, by igncr, icrnl and inlcr. `None` where it is dropped.
-fn mapped(termios: &Termios, byte: u8) -> Option<u8>
-    ensures { result ≡ mapped termios.now byte }
+fn translate(termios: &Termios, byte: u8) -> Option<u8>
+    ensures { result ≡ translate termios.now byte }
 {
     let flags = termios.flags;
     match byte {
@@ -160,7 +161,7 @@ impl Disc {
 
     /// Empties the input, the output, or both (tcflush(3)).
     pub fn flush(&mut self, input: bool, output: bool)
-        ensures line { (pool : PoolState) → discipline_of pool self.new ≡ flushed (discipline_of pool self.old) input output }
+        ensures line { (pool : PoolState) → discipline_of pool self.new ≡ flush (discipline_of pool self.old) input output }
         ensures keeps { (pool : PoolState) → KeepsBlocks pool pool self.old self.new }
     {
         if input {
@@ -199,7 +200,7 @@ impl Disc {
     /// INTR, QUIT and SUSP empty both queues, unless noflsh is on, and are echoed.
     fn interrupt(&mut self, pool: &mut Pool, byte: u8)
         requires { AreOf pool.old (blocks_of self.old) }
-        ensures line { discipline_of pool.new self.new ≡ interrupted bytes (discipline_of pool.old self.old) byte }
+        ensures line { discipline_of pool.new self.new ≡ interrupt bytes (discipline_of pool.old self.old) byte }
         ensures keeps { KeepsBlocks pool.old pool.new self.old self.new }
     {
         let flushes = !self.termios.flags.noflsh;
@@ -211,7 +212,7 @@ impl Disc {
     /// ERASE takes the last byte of the current line.
     fn erase(&mut self, pool: &mut Pool, byte: u8)
         requires { AreOf pool.old (blocks_of self.old) }
-        ensures line { discipline_of pool.new self.new ≡ erased bytes (discipline_of pool.old self.old) byte }
+        ensures line { discipline_of pool.new self.new ≡ erase bytes (discipline_of pool.old self.old) byte }
         ensures keeps { KeepsBlocks pool.old pool.new self.old self.new }
     {
         let Some(removed) = self.input.pop_current(pool) else {
@@ -222,13 +223,13 @@ impl Disc {
     }
 
     /// KILL takes the current line.
-    fn kill(&mut self, pool: &mut Pool, byte: u8)
+    fn drop_line(&mut self, pool: &mut Pool, byte: u8)
         requires { AreOf pool.old (blocks_of self.old) }
-        ensures line { discipline_of pool.new self.new ≡ killed bytes (discipline_of pool.old self.old) byte }
+        ensures line { discipline_of pool.new self.new ≡ drop_line bytes (discipline_of pool.old self.old) byte }
         ensures keeps { KeepsBlocks pool.old pool.new self.old self.new }
     {
         self.input.clear_current(pool);
-        let echoed = kill_echo(&self.termios, byte);
+        let echoed = drop_line_echo(&self.termios, byte);
         self.put_echo(pool, &echoed);
     }
 
@@ -237,7 +238,7 @@ impl Disc {
         requires room { length self.old.input.kinds < INPUT_PLACES }
         requires edits { self.old.termios.flags.icanon ≡ true }
         requires of_pool { AreOf pool.old (blocks_of self.old) }
-        ensures line { discipline_of pool.new self.new ≡ file_ended (discipline_of pool.old self.old) }
+        ensures line { discipline_of pool.new self.new ≡ end_file (discipline_of pool.old self.old) }
         ensures keeps { KeepsBlocks pool.old pool.new self.old self.new }
     {
         self.push(pool, PlaceKind::FileEnd, 0);
@@ -248,7 +249,7 @@ impl Disc {
         requires room { length self.old.input.kinds < INPUT_PLACES }
         requires edits { self.old.termios.flags.icanon ≡ true }
         requires of_pool { AreOf pool.old (blocks_of self.old) }
-        ensures line { discipline_of pool.new self.new ≡ line_ended bytes (discipline_of pool.old self.old) byte }
+        ensures line { discipline_of pool.new self.new ≡ end_line bytes (discipline_of pool.old self.old) byte }
         ensures keeps { KeepsBlocks pool.old pool.new self.old self.new }
     {
         let echoed = echo(&self.termios, byte);
@@ -260,7 +261,7 @@ impl Disc {
     fn add(&mut self, pool: &mut Pool, byte: u8)
         requires room { length self.old.input.kinds < INPUT_PLACES }
         requires of_pool { AreOf pool.old (blocks_of self.old) }
-        ensures line { discipline_of pool.new self.new ≡ added bytes (discipline_of pool.old self.old) byte }
+        ensures line { discipline_of pool.new self.new ≡ add_byte bytes (discipline_of pool.old self.old) byte }
         ensures keeps { KeepsBlocks pool.old pool.new self.old self.new }
     {
         let echoed = echo(&self.termios, byte);
@@ -286,7 +287,7 @@ impl Disc {
     /// What a byte does that is no STOP or START, sends no signal, and is read as it is.
     fn enter(&mut self, pool: &mut Pool, byte: u8)
         requires { AreOf pool.old (blocks_of self.old) }
-        ensures line { discipline_of pool.new self.new ≡ entered bytes (discipline_of pool.old self.old) byte }
+        ensures line { discipline_of pool.new self.new ≡ enter bytes (discipline_of pool.old self.old) byte }
         ensures keeps { KeepsBlocks pool.old pool.new self.old self.new }
     {
         let termios = *self.termios();
@@ -295,7 +296,7 @@ impl Disc {
             return;
         }
         if is_edit(&termios, termios.kill, byte) {
-            self.kill(pool, byte);
+            self.drop_line(pool, byte);
             return;
         }
         if self.is_full() {
@@ -326,7 +327,7 @@ impl Disc {
             return;
         }
         let termios = *self.termios();
-        if let Some(byte) = mapped(&termios, byte) {
+        if let Some(byte) = translate(&termios, byte) {
             self.enter(pool, byte);
         }
     }
@@ -342,7 +343,7 @@ impl Disc {
         ensures keeps { KeepsBlocks pool.old pool.new self.old self.new }
     {
         let termios = *self.termios();
-        let byte = stripped(&termios, byte);
+        let byte = strip(&termios, byte);
         if is_flow(&termios, byte) {
             self.stopped = is_char(termios.stop, byte);
             return None;
@@ -379,7 +380,7 @@ impl Disc {
     pub fn read(&mut self, pool: &Pool, max: u16) -> Option<Piece>
         requires most { max ≤ PIECE_BYTES }
         requires of_pool { AreOf pool.now (blocks_of self.old) }
-        ensures given { result ≡ read (discipline_of pool.now self.old) max }
+        ensures bytes { result ≡ read (discipline_of pool.now self.old) max }
         ensures line { discipline_of pool.now self.new ≡ after_read (discipline_of pool.now self.old) max }
         ensures keeps { KeepsBlocks pool.now pool.now self.old self.new }
     {
@@ -393,7 +394,7 @@ impl Disc {
     pub fn take(&mut self, pool: &Pool, max: u16) -> Piece
         requires most { max ≤ PIECE_BYTES }
         requires of_pool { AreOf pool.now (blocks_of self.old) }
-        ensures sent { result ≡ sent (discipline_of pool.now self.old) max }
+        ensures front { result ≡ output_front (discipline_of pool.now self.old) max }
         ensures line { discipline_of pool.now self.new ≡ after_take (discipline_of pool.now self.old) max }
         ensures keeps { KeepsBlocks pool.now pool.now self.old self.new }
     {
@@ -407,7 +408,7 @@ impl Disc {
     /// lines and of file. Where it comes on, it is one ready line.
     pub fn retune(&mut self, pool: &mut Pool, termios: Termios)
         requires { AreOf pool.old (blocks_of self.old) }
-        ensures line { discipline_of pool.new self.new ≡ retuned (discipline_of pool.old self.old) termios }
+        ensures line { discipline_of pool.new self.new ≡ retune (discipline_of pool.old self.old) termios }
         ensures keeps { KeepsBlocks pool.old pool.new self.old self.new }
     {
         self.input

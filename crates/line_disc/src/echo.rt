@@ -1,6 +1,6 @@
 //! What a line puts out for a byte: the output rule and the echo.
 ghost use Rattle.std.specs.Prelude.{◌≡◌, ◌<◌, ◌≤◌, ◌++◌, length};
-ghost use Rattle.line_disc.specs.Echo.{is_char, shown_byte, shown, is_drawn, drawn, echo, columns, erase_echo, kill_echo};
+ghost use Rattle.line_disc.specs.Echo.{is_char, shown_byte, shown, is_drawn, draw, echo, columns, erase_echo, drop_line_echo};
 
 use arrayvec::ArrayVec;
 use termios_core::{DISABLED, Termios};
@@ -67,7 +67,7 @@ fn is_drawn(byte: u8) -> bool
 /// Adds the drawing of a byte: itself, or `^` and a letter.
 fn draw(termios: &Termios, byte: u8, out: &mut Echo)
     requires { length out.old.items ≤ 2 }
-    ensures { out.new.items ≡ out.old.items ++ drawn termios.now byte }
+    ensures { out.new.items ≡ out.old.items ++ draw termios.now byte }
 {
     if termios.flags.echoctl && is_drawn(byte) {
         out.push(b'^');
@@ -124,8 +124,8 @@ pub(crate) fn erase_echo(termios: &Termios, byte: u8, removed: u8) -> Echo
 }
 
 /// The echo of KILL.
-pub(crate) fn kill_echo(termios: &Termios, byte: u8) -> Echo
-    ensures { result.items ≡ kill_echo termios.now byte }
+pub(crate) fn drop_line_echo(termios: &Termios, byte: u8) -> Echo
+    ensures { result.items ≡ drop_line_echo termios.now byte }
 {
     let mut out = ArrayVec::new();
     if !termios.flags.echo {

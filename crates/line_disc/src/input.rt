@@ -3,7 +3,7 @@ ghost use Rattle.std.specs.Prelude.{◌≡◌, ℕ, ◌+◌, ◌<◌, ◌≤◌,
 ghost use Rattle.sys_types.specs.declared.limits.TheConstants.{INPUT_PLACES, PIECE_BYTES};
 ghost use Rattle.block_pool.specs.Pool.{PoolState, AreOf, WritesTo};
 ghost use Rattle.line_disc.specs.Discipline.{no_input, places, all_cells};
-ghost use Rattle.line_disc.specs.Transfers.{has_none, as_line, turned};
+ghost use Rattle.line_disc.specs.Transfers.{has_none, as_line, turn};
 ghost use Rattle.line_disc.specs.Places.{places_in, input_of, with_back, all_bytes, walk};
 
 use crate::place::{PlaceKind, PlaceKinds};
@@ -116,7 +116,7 @@ impl Input {
     /// Frees the first place where it is an end of file.
     fn pop_mark(&mut self, pool: &Pool)
         requires { AreOf pool.now self.old.chain.blocks }
-        ensures left { places_in pool.now self.new ≡ (walk 0 (places_in pool.now self.old)).1 }
+        ensures rest { places_in pool.now self.new ≡ (walk 0 (places_in pool.now self.old)).1 }
         ensures seen { has_none (input_of pool.now self.new).ready ≡ all_bytes self.new.kinds }
         ensures blocks { self.new.chain.blocks ≡ self.old.chain.blocks }
     {
@@ -159,13 +159,13 @@ impl Input {
     pub(crate) fn read(&mut self, pool: &Pool, max: u16) -> Piece
         requires most { max ≤ PIECE_BYTES }
         requires of_pool { AreOf pool.now self.old.chain.blocks }
-        ensures given { result ≡ (walk max (places_in pool.now self.old)).0 }
-        ensures left { places_in pool.now self.new ≡ (walk max (places_in pool.now self.old)).1 }
+        ensures front { result ≡ (walk max (places_in pool.now self.old)).0 }
+        ensures rest { places_in pool.now self.new ≡ (walk max (places_in pool.now self.old)).1 }
         ensures seen { has_none (input_of pool.now self.new).ready ≡ all_bytes self.new.kinds }
         ensures blocks { self.new.chain.blocks ≡ self.old.chain.blocks }
     {
         let mut bytes = ArrayVec::<u8, PIECE_BYTES>::new();
-        for _given in 0..max {
+        for _place in 0..max {
             match self.pop(pool) {
                 Some((PlaceKind::Byte, byte)) => bytes.push(byte),
                 Some((PlaceKind::LineEnd, byte)) => {
@@ -216,7 +216,7 @@ impl Input {
     pub(crate) fn turn(&mut self, pool: &mut Pool, old: bool, new: bool)
         requires bytes { old ≡ false → all_bytes self.old.kinds ≡ true }
         requires of_pool { AreOf pool.old self.old.chain.blocks }
-        ensures lines { input_of pool.new self.new ≡ turned old new (input_of pool.old self.old) }
+        ensures lines { input_of pool.new self.new ≡ turn old new (input_of pool.old self.old) }
         ensures bytes { new ≡ false → all_bytes self.new.kinds ≡ true }
         ensures blocks { self.new.chain.blocks ≡ self.old.chain.blocks }
         ensures writes { WritesTo self.old.chain.blocks pool.old pool.new }

@@ -4,7 +4,7 @@ ghost use Rattle.sys_types.specs.declared.limits.TheConstants.{PIECE_BYTES, OUTP
 ghost use Rattle.block_pool.specs.Pool.{AreOf, WritesTo};
 ghost use Rattle.block_pool.specs.Chain.{room_of, holds};
 ghost use Rattle.line_disc.specs.Echo.{shown};
-ghost use Rattle.line_disc.specs.Transfers.{fitting};
+ghost use Rattle.line_disc.specs.Transfers.{fit_count};
 
 use crate::echo::shown_byte;
 use arrayvec::ArrayVec;
@@ -42,7 +42,7 @@ pub(crate) fn append_shown(
 ) -> u16
     requires blocks { length output.old.blocks ≡ 32 }
     requires of_pool { AreOf pool.old output.old.blocks }
-    ensures count { result ≡ fitting termios.now (OUTPUT_BYTES - length (holds pool.old output.old)) bytes.now }
+    ensures count { result ≡ fit_count termios.now (OUTPUT_BYTES - length (holds pool.old output.old)) bytes.now }
     ensures bytes { holds pool.new output.new ≡ holds pool.old output.old ++ shown termios.now (take result bytes.now) }
     ensures blocks { output.new.blocks ≡ output.old.blocks }
     ensures writes { WritesTo output.old.blocks pool.old pool.new }
@@ -63,12 +63,12 @@ pub(crate) fn append_shown(
 pub(crate) fn take_front(chain: &mut Chain, pool: &Pool, max: u16) -> Piece
     requires most { max ≤ PIECE_BYTES }
     requires of_pool { AreOf pool.now chain.old.blocks }
-    ensures taken { result ≡ take max (holds pool.now chain.old) }
-    ensures left { holds pool.now chain.new ≡ drop max (holds pool.now chain.old) }
+    ensures front { result ≡ take max (holds pool.now chain.old) }
+    ensures rest { holds pool.now chain.new ≡ drop max (holds pool.now chain.old) }
     ensures blocks { chain.new.blocks ≡ chain.old.blocks }
 {
     let mut bytes = ArrayVec::<u8, PIECE_BYTES>::new();
-    for _taken in 0..max {
+    for _place in 0..max {
         let Some(byte) = chain.pop_front(pool) else {
             return piece_of(&bytes);
         };

@@ -4,8 +4,9 @@ use Rattle.std.specs.Prelude.{nat_lt, replicate, ◌==◌, ◌||◌, if◌then�
 use Rattle.std.specs.List.{list_any}
 use Rattle.std.proofs.lemmas.Bool.{ne_eqb}
 use Rattle.std.proofs.lemmas.Bool.Decides.{nat_tests}
-use Rattle.tty_dev.specs.Line.{LineState, left_live}
-use Rattle.tty_dev.specs.History.{Use, opens, closes, revokes, Counts, after_use, after, is_revoked_in, without_one, files_after_use, may_close, Leads, nothing, one_more}
+use Rattle.tty_dev.specs.Line.{LineState, live_after}
+use Rattle.tty_dev.specs.History.{Use, opens, closes, revokes, Counts, after_use, after, is_revoked_in, without_one, files_after_use, may_close, Leads}
+use Rattle.tty_dev.specs.History.{nothing, one_more}
 
 -- a close leaves the generation
 leaves_where : (test : Bool) (c : Counts) → (if test then c else record c { live = c.live - 1 }).generation ≡ c.generation
@@ -65,7 +66,8 @@ closed_where : (c : Counts) (opened : ℕ) (dead : Bool) → nat_lt opened c.gen
     → without_one opened (replicate c.live c.generation)
     ≡ replicate (if dead then c else record c { live = c.live - 1 }).live (if dead then c else record c { live = c.live - 1 }).generation
 closed_where c opened true is in_order =
-    let other : eqb c.generation opened ≡ false = ne_eqb c.generation opened (λ e. let low : opened < c.generation = grind (arith, nat_tests) in omega (arith, e, low)) in
+    let low : opened < c.generation = grind (arith, nat_tests) in
+    let other : eqb c.generation opened ≡ false = ne_eqb c.generation opened (λ e. omega (arith, e, low)) in
     without_other c.live c.generation opened other
 closed_where c opened false is in_order =
     let among = among_live c.live c.generation opened in_order in
@@ -92,5 +94,5 @@ live_where false c = refl
 
 -- a line counts a close as a history does
 pub close_counts : (line : LineState) (opened : ℕ)
-    → left_live line opened ≡ (after_use (record { generation = line.generation; live = line.live }) (closes opened)).live
+    → live_after line opened ≡ (after_use (record { generation = line.generation; live = line.live }) (closes opened)).live
 close_counts line opened = live_where (nat_lt opened line.generation) (record { generation = line.generation; live = line.live })

@@ -1,5 +1,6 @@
 -- A terminal line as a device over the pool of its blocks (tty(4)).
-use Rattle.std.specs.Prelude.{◌≡◌, ℕ, ◌+◌, ◌-◌, length, Bool, true, false, not, ◌&&◌, List, [], nat_lt, nat_le, if◌then◌else◌, Option, Some, None, is_some, option_map}
+use Rattle.std.specs.Prelude.{◌≡◌, ℕ, ◌+◌, ◌-◌, length, Bool, true, false, not, ◌&&◌, List, [], nat_lt, nat_le, if◌then◌else◌, Option, Some, None, is_some}
+use Rattle.std.specs.Prelude.{option_map}
 use Rattle.termios_core.specs.declared.termios.Termios.{Termios}
 use Rattle.termios_core.specs.Termios.{cooked, raw}
 use Rattle.block_pool.specs.Pool.{PoolState}
@@ -55,8 +56,8 @@ abbrev pub is_last : LineState → ℕ → Bool
 is_last line opened = not (is_dead line opened) && nat_le line.live 1
 
 -- how many files are live after its close
-abbrev pub left_live : LineState → ℕ → ℕ
-left_live line opened = if is_dead line opened then line.live else line.live - 1
+abbrev pub live_after : LineState → ℕ → ℕ
+live_after line opened = if is_dead line opened then line.live else line.live - 1
 
 -- a call that opens, closes and revokes nothing leaves the counts and the blocks
 pub record KeepsCounts (old new : LineState) : Type 0 where
@@ -66,7 +67,7 @@ pub record KeepsCounts (old new : LineState) : Type 0 where
   pub held : held_by new ≡ held_by old
 
 -- an open adds one live file
-pub record IsOpenedOnce (old new : LineState) : Type 0 where
+pub record AddsOneFile (old new : LineState) : Type 0 where
   pub generation : new.generation ≡ old.generation
   pub live : new.live ≡ old.live + 1
   pub is_cooked : new.is_cooked ≡ old.is_cooked
@@ -74,5 +75,5 @@ pub record IsOpenedOnce (old new : LineState) : Type 0 where
   pub size : is_some old.disc ≡ false → length (held_by new) ≡ 40
 
 -- the blocks that it takes
-abbrev pub newly_held : LineState → LineState → List ℕ
-newly_held old new = if is_some old.disc then [] else held_by new
+abbrev pub new_blocks : LineState → LineState → List ℕ
+new_blocks old new = if is_some old.disc then [] else held_by new

@@ -1,7 +1,7 @@
 //! What holds of every line and of what has been done at it, as contracts of functions that do nothing.
 ghost use Rattle.std.specs.Prelude.{◌≡◌, ℕ, true, List, [], ◌∷◌, ◌++◌, length, nat_lt, replicate};
 ghost use Rattle.sys_types.specs.declared.limits.TheConstants.{LINE_BLOCKS, OPEN_FILES};
-ghost use Rattle.tty_dev.specs.Line.{LineState, is_dead, left_live};
+ghost use Rattle.tty_dev.specs.Line.{LineState, is_dead, live_after};
 ghost use Rattle.tty_dev.specs.History.{Use, Counts, opens, closes, revokes, after, after_use, is_revoked_in, Leads};
 
 /// A file that was neither closed nor revoked is not dead. After a revoke every generation that was given before is dead for
@@ -19,7 +19,7 @@ pub fn live_files()
 
 /// A line counts what is done at it as a history does.
 pub fn counts()
-    ensures { (line : LineState) (opened : ℕ) → left_live line opened
+    ensures { (line : LineState) (opened : ℕ) → live_after line opened
         ≡ (after_use (record { generation = line.generation; live = line.live }) (closes opened)).live }
 {}
 

@@ -1,10 +1,12 @@
 //! A terminal line.
-ghost use Rattle.std.specs.Prelude.{◌≡◌, ℕ, ◌+◌, ◌<◌, ◌≤◌, ◌^◌, ◌↔◌, true, false, List, [], length, nat_lt, is_some, if◌then◌else◌, Option, Some, None, IfOk, OnOk, OnErr, IsErr};
+ghost use Rattle.std.specs.Prelude.{◌≡◌, ℕ, ◌+◌, ◌<◌, ◌≤◌, ◌^◌, ◌↔◌, true, false, List, [], length, nat_lt, is_some, if◌then◌else◌, Option, Some, None, IfOk};
+ghost use Rattle.std.specs.Prelude.{OnOk, OnErr, IsErr};
 ghost use Rattle.sys_types.specs.declared.limits.TheConstants.{LINE_BLOCKS, OPEN_FILES, PIECE_BYTES};
 ghost use Rattle.block_pool.specs.Pool.{PoolState, AreOf, Lends, WritesTo};
 ghost use Rattle.line_disc.specs.Discipline.{bytes};
-ghost use Rattle.line_disc.specs.Device.{closed_device, opened, last_closed, came, sent_of, taken_from, is_connected, disconnected, carried, hangs_up, ended_for_good, revoked};
-ghost use Rattle.tty_dev.specs.Line.{boot_termios, device_of, blocks_in, held_by, newly_held, is_dead, is_last, left_live, KeepsCounts, IsOpenedOnce};
+ghost use Rattle.line_disc.specs.Device.{closed_device, open_file, close_last, receive, output_of, take_output, is_connected, disconnect, set_carrier};
+ghost use Rattle.line_disc.specs.Device.{hangs_up, end_for_good, revoke};
+ghost use Rattle.tty_dev.specs.Line.{boot_termios, device_of, blocks_in, held_by, new_blocks, is_dead, is_last, live_after, KeepsCounts, AddsOneFile};
 
 use block_pool::{Pool, PoolFull};
 use line_disc::Disc;
@@ -130,9 +132,9 @@ impl Line {
         requires { self.old.live < OPEN_FILES }
         ensures full { IsErr result ↔ ((self.old.disc ≡ None) × (length pool.old.free < LINE_BLOCKS)) }
         ensures number { IfOk result (λ number. number ≡ self.old.generation) }
-        ensures line { OnOk result (device_of pool.new self.new ≡ opened (boot_termios self.old.is_cooked) (device_of pool.old self.old)) }
-        ensures counts { OnOk result (IsOpenedOnce self.old self.new) }
-        ensures lends { OnOk result (Lends (newly_held self.old self.new) pool.old pool.new) }
+        ensures line { OnOk result (device_of pool.new self.new ≡ open_file (boot_termios self.old.is_cooked) (device_of pool.old self.old)) }
+        ensures counts { OnOk result (AddsOneFile self.old self.new) }
+        ensures lends { OnOk result (Lends (new_blocks self.old self.new) pool.old pool.new) }
         ensures of_pool { AreOf pool.old (held_by self.old) → OnOk result (AreOf pool.new (held_by self.new)) }
         ensures err { OnErr result ((self.new ≡ self.old) × (pool.new ≡ pool.old)) }
     {
@@ -156,8 +158,8 @@ impl Line {
         requires live { is_dead self.old opened ≡ false → 0 < self.old.live }
         requires of_pool { AreOf pool.old (held_by self.old) }
         ensures line { device_of pool.new self.new
-            ≡ (if is_last self.old opened then last_closed (device_of pool.old self.old) else device_of pool.old self.old) }
-        ensures live { self.new.live ≡ left_live self.old opened }
+            ≡ (if is_last self.old opened then close_last (device_of pool.old self.old) else device_of pool.old self.old) }
+        ensures live { self.new.live ≡ live_after self.old opened }
         ensures generation { self.new.generation ≡ self.old.generation }
         ensures cooked { self.new.is_cooked ≡ self.old.is_cooked }
         ensures held { held_by self.new ≡ (if is_last self.old opened then [] else held_by self.old) }
@@ -176,7 +178,7 @@ impl Line {
     /// No file is live any more: what is queued and the zombie mark go, and the blocks are free.
     fn shut(&mut self, pool: &mut Pool)
         requires { AreOf pool.old (held_by self.old) }
-        ensures line { device_of pool.new self.new ≡ last_closed (device_of pool.old self.old) }
+        ensures line { device_of pool.new self.new ≡ close_last (device_of pool.old self.old) }
         ensures live { self.new.live ≡ 0 }
         ensures generation { self.new.generation ≡ self.old.generation }
         ensures cooked { self.new.is_cooked ≡ self.old.is_cooked }
@@ -193,8 +195,8 @@ impl Line {
     /// where the line is a zombie or has ended, and without carrier unless clocal is on.
     pub fn byte(&mut self, pool: &mut Pool, byte: u8) -> Option<Sig>
         requires { AreOf pool.old (held_by self.old) }
-        ensures line { device_of pool.new self.new ≡ (came bytes (device_of pool.old self.old) byte).0 }
-        ensures signal { result ≡ (came bytes (device_of pool.old self.old) byte).1 }
+        ensures line { device_of pool.new self.new ≡ (receive bytes (device_of pool.old self.old) byte).0 }
+        ensures signal { result ≡ (receive bytes (device_of pool.old self.old) byte).1 }
         ensures keeps { KeepsCounts self.old self.new }
         ensures writes { WritesTo (held_by self.old) pool.old pool.new }
     {
@@ -211,8 +213,8 @@ impl Line {
     pub fn take(&mut self, pool: &Pool, max: u16) -> Piece
         requires most { max ≤ PIECE_BYTES }
         requires of_pool { AreOf pool.now (held_by self.old) }
-        ensures sent { result ≡ sent_of max (device_of pool.now self.old).discipline }
-        ensures line { device_of pool.now self.new ≡ taken_from (device_of pool.now self.old) max }
+        ensures front { result ≡ output_of max (device_of pool.now self.old).discipline }
+        ensures line { device_of pool.now self.new ≡ take_output (device_of pool.now self.old) max }
         ensures keeps { KeepsCounts self.old self.new }
     {
         match &mut self.disc {
@@ -225,7 +227,7 @@ impl Line {
     /// session's leader is to be told (termios(4), "Modem Disconnect"): the carrier goes while a file is live and clocal is
     /// off. Then both queues are emptied, and the line is a zombie.
     pub fn carrier(&mut self, _pool: &mut Pool, up: bool) -> bool
-        ensures line { (pool : PoolState) → device_of pool self.new ≡ carried (device_of pool self.old) up }
+        ensures line { (pool : PoolState) → device_of pool self.new ≡ set_carrier (device_of pool self.old) up }
         ensures told { (pool : PoolState) → result ≡ hangs_up (device_of pool self.old) up }
         ensures keeps { KeepsCounts self.old self.new }
         ensures pool { _pool.new ≡ _pool.old }
@@ -243,7 +245,7 @@ impl Line {
     /// The line ends for good: its carrier goes, and what comes later of bytes, carriers and ends changes nothing. Answers
     /// whether this disconnects the line, as `carrier` does.
     pub fn end(&mut self, pool: &mut Pool) -> bool
-        ensures line { (pool : PoolState) → device_of pool self.new ≡ ended_for_good (device_of pool self.old) }
+        ensures line { (pool : PoolState) → device_of pool self.new ≡ end_for_good (device_of pool self.old) }
         ensures told { (pool : PoolState) → result ≡ hangs_up (device_of pool self.old) false }
         ensures keeps { KeepsCounts self.old self.new }
         ensures pool { pool.new ≡ pool.old }
@@ -255,7 +257,7 @@ impl Line {
 
     /// A modem disconnect, where a file is live and clocal is off. Answers whether it is one.
     fn disconnect(&mut self) -> bool
-        ensures line { (pool : PoolState) → device_of pool self.new ≡ disconnected (device_of pool self.old) }
+        ensures line { (pool : PoolState) → device_of pool self.new ≡ disconnect (device_of pool self.old) }
         ensures told { (pool : PoolState) → result ≡ is_connected (device_of pool self.old).discipline }
         ensures keeps { KeepsCounts self.old self.new }
     {
@@ -276,7 +278,7 @@ impl Line {
         requires few { self.old.generation < 2 ^ 63 }
         requires of_pool { AreOf pool.old (held_by self.old) }
         ensures session { result ≡ self.old.session }
-        ensures line { device_of pool.new self.new ≡ revoked (device_of pool.old self.old) }
+        ensures line { device_of pool.new self.new ≡ revoke (device_of pool.old self.old) }
         ensures generation { self.new.generation ≡ self.old.generation + 1 }
         ensures live { self.new.live ≡ 0 }
         ensures cooked { self.new.is_cooked ≡ self.old.is_cooked }

@@ -17,13 +17,25 @@ pub returns-clause-line : goal.returns-clause-line
 returns-clause-line c =
     let IsOf : DiscState → Type 0 = λ s. AreOf c.args.pool.now (blocks_of s) in
     let of_pool = subst IsOf (sym c.self.view_is) c.requires.of_pool in
-    let Lines : DiscState → Type 0 = λ s. discipline_of c.push.new.pool (record { termios = c.self.inside.termios; input = c.push.new.self; output = c.self.inside.output; stopped = c.self.inside.stopped }) ≡ record (discipline_of c.args.pool.now s) {
+    let Lines : DiscState
+    → Type 0 = λ s. discipline_of c.push.new.pool
+    (lemmas.disc_state c.self.inside.termios c.push.new.self c.self.inside.output c.self.inside.stopped)
+    ≡ record (discipline_of c.args.pool.now s) {
       input = with_back c.args.kind c.args.byte (input_of c.args.pool.now s.input);
     } in
     subst Lines c.self.view_is
-    (lemmas.input_changes c.args.pool.now c.push.new.pool (record { termios = c.self.inside.termios; input = c.self.inside.input; output = c.self.inside.output; stopped = c.self.inside.stopped }) (record { termios = c.self.inside.termios; input = c.push.new.self; output = c.self.inside.output; stopped = c.self.inside.stopped }) c.self.inside.termios _ of_pool c.push.ensures.writes refl refl refl c.push.ensures.lines)
+    (lemmas.input_changes c.args.pool.now c.push.new.pool
+    (lemmas.disc_state c.self.inside.termios c.self.inside.input c.self.inside.output c.self.inside.stopped)
+    (lemmas.disc_state c.self.inside.termios c.push.new.self c.self.inside.output c.self.inside.stopped)
+    c.self.inside.termios _ of_pool c.push.ensures.writes refl refl refl c.push.ensures.lines)
 
 pub returns-clause-keeps : goal.returns-clause-keeps
 returns-clause-keeps c =
-    let Keeps : DiscState → Type 0 = λ s. KeepsBlocks c.args.pool.now c.push.new.pool s (record { termios = c.self.inside.termios; input = c.push.new.self; output = c.self.inside.output; stopped = c.self.inside.stopped }) in
-    subst Keeps c.self.view_is (lemmas.keeps_by_input c.args.pool.now c.push.new.pool (record { termios = c.self.inside.termios; input = c.self.inside.input; output = c.self.inside.output; stopped = c.self.inside.stopped }) (record { termios = c.self.inside.termios; input = c.push.new.self; output = c.self.inside.output; stopped = c.self.inside.stopped }) c.push.ensures.blocks refl c.push.ensures.writes)
+    let Keeps : DiscState → Type 0 =
+    λ s. KeepsBlocks c.args.pool.now c.push.new.pool s
+    (lemmas.disc_state c.self.inside.termios c.push.new.self c.self.inside.output c.self.inside.stopped) in
+    subst Keeps c.self.view_is
+    (lemmas.keeps_by_input c.args.pool.now c.push.new.pool
+    (lemmas.disc_state c.self.inside.termios c.self.inside.input c.self.inside.output c.self.inside.stopped)
+    (lemmas.disc_state c.self.inside.termios c.push.new.self c.self.inside.output c.self.inside.stopped)
+    c.push.ensures.blocks refl c.push.ensures.writes)

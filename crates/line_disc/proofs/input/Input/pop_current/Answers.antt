@@ -1,15 +1,18 @@
 use Rattle.std.proofs.Common.{◌<◌, sym, ◌∙◌, refl, arith}
-use Rattle.line_disc.proofs.InputLemmas.{PopsBack, takes_last, length-current_of, none_of_length, none_of_some}
+use Rattle.line_disc.proofs.InputLemmas.{input_state, PopsBack, takes_last, length-current_of, none_of_length, none_of_some}
 use Rattle.line_disc.proofs.input.Input.pop_current.Goals as goal
 
 pub returns-then-self-eq0-clause-none : goal.returns-then-self-eq0-clause-none
 returns-then-self-eq0-clause-none c =
-    let none = length-current_of c.args.pool.now (record { chain = c.self.inside.chain; kinds = c.self.inside.kinds }) c.self.invariant.count ∙ sym c.self.invariant.current ∙ c.if-self-eq0.true in
+    let none =
+    length-current_of c.args.pool.now (input_state c.self.inside.chain c.self.inside.kinds) c.self.invariant.count
+    ∙ sym c.self.invariant.current ∙ c.if-self-eq0.true in
     (λ _. rw (← c.self.view_is) (none_of_length _ none), λ _. refl)
 
 pub invariant_of-self : goal.invariant_of-self
 invariant_of-self c =
-    let pops : PopsBack c.args.pool.now (record { chain = c.self.inside.chain; kinds = c.self.inside.kinds }) (record { chain = c.pop_back-2.new.self; kinds = c.pop_back.new.self }) c.pop_back.result c.pop_back-2.result = record {
+    let pops : PopsBack c.args.pool.now (input_state c.self.inside.chain c.self.inside.kinds)
+    (input_state c.pop_back-2.new.self c.pop_back.new.self) c.pop_back.result c.pop_back-2.result = record {
       kinds = c.pop_back.ensures.kinds;
       no_kind = c.pop_back.ensures.none;
       held = c.pop_back-2.ensures.bytes;
@@ -18,12 +21,14 @@ invariant_of-self c =
       blocks = c.pop_back-2.ensures.blocks;
     } in
     let some : 0 < c.self.inside.current = omega arith in
-    (takes_last c.args.pool.now (record { chain = c.self.inside.chain; kinds = c.self.inside.kinds }) (record { chain = c.pop_back-2.new.self; kinds = c.pop_back.new.self }) c.pop_back.result c.pop_back-2.result
+    (takes_last c.args.pool.now (input_state c.self.inside.chain c.self.inside.kinds) (input_state c.pop_back-2.new.self c.pop_back.new.self)
+    c.pop_back.result c.pop_back-2.result
     c.self.inside.current c.self.invariant some pops).whole
 
 pub returns-clause-ready : goal.returns-clause-ready
 returns-clause-ready c =
-    let pops : PopsBack c.args.pool.now (record { chain = c.self.inside.chain; kinds = c.self.inside.kinds }) (record { chain = c.pop_back-2.new.self; kinds = c.pop_back.new.self }) c.pop_back.result c.pop_back-2.result = record {
+    let pops : PopsBack c.args.pool.now (input_state c.self.inside.chain c.self.inside.kinds)
+    (input_state c.pop_back-2.new.self c.pop_back.new.self) c.pop_back.result c.pop_back-2.result = record {
       kinds = c.pop_back.ensures.kinds;
       no_kind = c.pop_back.ensures.none;
       held = c.pop_back-2.ensures.bytes;
@@ -32,12 +37,15 @@ returns-clause-ready c =
       blocks = c.pop_back-2.ensures.blocks;
     } in
     let some : 0 < c.self.inside.current = omega arith in
-    rw (← c.self.view_is) ((takes_last c.args.pool.now (record { chain = c.self.inside.chain; kinds = c.self.inside.kinds }) (record { chain = c.pop_back-2.new.self; kinds = c.pop_back.new.self }) c.pop_back.result c.pop_back-2.result
+    rw (← c.self.view_is)
+    ((takes_last c.args.pool.now (input_state c.self.inside.chain c.self.inside.kinds) (input_state c.pop_back-2.new.self c.pop_back.new.self)
+    c.pop_back.result c.pop_back-2.result
     c.self.inside.current c.self.invariant some pops).ready)
 
 pub returns-clause-current : goal.returns-clause-current
 returns-clause-current c =
-    let pops : PopsBack c.args.pool.now (record { chain = c.self.inside.chain; kinds = c.self.inside.kinds }) (record { chain = c.pop_back-2.new.self; kinds = c.pop_back.new.self }) c.pop_back.result c.pop_back-2.result = record {
+    let pops : PopsBack c.args.pool.now (input_state c.self.inside.chain c.self.inside.kinds)
+    (input_state c.pop_back-2.new.self c.pop_back.new.self) c.pop_back.result c.pop_back-2.result = record {
       kinds = c.pop_back.ensures.kinds;
       no_kind = c.pop_back.ensures.none;
       held = c.pop_back-2.ensures.bytes;
@@ -46,12 +54,15 @@ returns-clause-current c =
       blocks = c.pop_back-2.ensures.blocks;
     } in
     let some : 0 < c.self.inside.current = omega arith in
-    rw (← c.self.view_is) ((takes_last c.args.pool.now (record { chain = c.self.inside.chain; kinds = c.self.inside.kinds }) (record { chain = c.pop_back-2.new.self; kinds = c.pop_back.new.self }) c.pop_back.result c.pop_back-2.result
+    rw (← c.self.view_is)
+    ((takes_last c.args.pool.now (input_state c.self.inside.chain c.self.inside.kinds) (input_state c.pop_back-2.new.self c.pop_back.new.self)
+    c.pop_back.result c.pop_back-2.result
     c.self.inside.current c.self.invariant some pops).current)
 
 pub returns-clause-kinds : goal.returns-clause-kinds
 returns-clause-kinds c =
-    let pops : PopsBack c.args.pool.now (record { chain = c.self.inside.chain; kinds = c.self.inside.kinds }) (record { chain = c.pop_back-2.new.self; kinds = c.pop_back.new.self }) c.pop_back.result c.pop_back-2.result = record {
+    let pops : PopsBack c.args.pool.now (input_state c.self.inside.chain c.self.inside.kinds)
+    (input_state c.pop_back-2.new.self c.pop_back.new.self) c.pop_back.result c.pop_back-2.result = record {
       kinds = c.pop_back.ensures.kinds;
       no_kind = c.pop_back.ensures.none;
       held = c.pop_back-2.ensures.bytes;
@@ -60,12 +71,15 @@ returns-clause-kinds c =
       blocks = c.pop_back-2.ensures.blocks;
     } in
     let some : 0 < c.self.inside.current = omega arith in
-    rw (← c.self.view_is) ((takes_last c.args.pool.now (record { chain = c.self.inside.chain; kinds = c.self.inside.kinds }) (record { chain = c.pop_back-2.new.self; kinds = c.pop_back.new.self }) c.pop_back.result c.pop_back-2.result
+    rw (← c.self.view_is)
+    ((takes_last c.args.pool.now (input_state c.self.inside.chain c.self.inside.kinds) (input_state c.pop_back-2.new.self c.pop_back.new.self)
+    c.pop_back.result c.pop_back-2.result
     c.self.inside.current c.self.invariant some pops).bytes)
 
 pub returns-clause-none : goal.returns-clause-none
 returns-clause-none c =
-    let pops : PopsBack c.args.pool.now (record { chain = c.self.inside.chain; kinds = c.self.inside.kinds }) (record { chain = c.pop_back-2.new.self; kinds = c.pop_back.new.self }) c.pop_back.result c.pop_back-2.result = record {
+    let pops : PopsBack c.args.pool.now (input_state c.self.inside.chain c.self.inside.kinds)
+    (input_state c.pop_back-2.new.self c.pop_back.new.self) c.pop_back.result c.pop_back-2.result = record {
       kinds = c.pop_back.ensures.kinds;
       no_kind = c.pop_back.ensures.none;
       held = c.pop_back-2.ensures.bytes;
@@ -74,6 +88,7 @@ returns-clause-none c =
       blocks = c.pop_back-2.ensures.blocks;
     } in
     let some : 0 < c.self.inside.current = omega arith in
-    let taken = takes_last c.args.pool.now (record { chain = c.self.inside.chain; kinds = c.self.inside.kinds }) (record { chain = c.pop_back-2.new.self; kinds = c.pop_back.new.self }) c.pop_back.result c.pop_back-2.result
+    let taken = takes_last c.args.pool.now (input_state c.self.inside.chain c.self.inside.kinds)
+    (input_state c.pop_back-2.new.self c.pop_back.new.self) c.pop_back.result c.pop_back-2.result
     c.self.inside.current c.self.invariant some pops in
     rw (← c.self.view_is) (none_of_some _ c.pop_back-2.result _ taken.some taken.current)
