@@ -1,7 +1,8 @@
 -- How many numbers refer to an entry, and the first place of a list that passes a test.
-use Rattle.std.proofs.Common.{◌≡◌, ℕ, ◌+◌, ◌*◌, ◌<◌, ◌≤◌, Bool, true, false, cond, List, [], ◌∷◌, length, get_or, set, Option, None, Some, position, count_by, eqb, arith, refl, ap, sym, ◌∙◌}
+use Rattle.std.proofs.Common.{◌≡◌, ℕ, ◌+◌, ◌*◌, ◌<◌, ◌≤◌, Bool, true, cond, List, [], length, get_or, set, Option, None, Some, position, count_by, arith}
+use Rattle.std.proofs.Common.{refl, ap, ◌∙◌}
 use Rattle.std.specs.Prelude.{nat_lt, All}
-use Rattle.std.specs.List.{position_or_len, sum_by}
+use Rattle.std.specs.List.{position_or_len}
 use Rattle.std.proofs.lemmas.Bool.Decides.{nat_tests}
 use Rattle.std.proofs.lemmas.List.Sums.{prefix_len-le-length, sum_by-set, sum_by-le, count_by-le-length, get_or-le-sum_by}
 use Rattle.std.proofs.lemmas.List.{get_or_past}
@@ -33,7 +34,8 @@ abbrev pub bit : Bool → ℕ
 bit b = cond b 1 0
 
 -- one number is given another descriptor
-pub references-put : (a : ℕ) (table : Table) (slot number : ℕ) (what : Option Descriptor) → slot < length table → number < length (row_of table slot) → references a (put table slot number what) + bit (refers a (descriptor_at table slot number)) ≡ references a table + bit (refers a what)
+pub references-put : (a : ℕ) (table : Table) (slot number : ℕ) (what : Option Descriptor) → slot < length table → number < length (row_of table slot)
+    → references a (put table slot number what) + bit (refers a (descriptor_at table slot number)) ≡ references a table + bit (refers a what)
 references-put a table slot number what within inside =
     let row = row_of table slot in
     let outer = sum_by-set (λ r. count_by (refers a) r) table slot (set row number what) [] within in
@@ -41,7 +43,8 @@ references-put a table slot number what within inside =
     omega (arith, outer, inner)
 
 -- a slot is given other numbers
-pub references-row : (a : ℕ) (table : Table) (slot : ℕ) (row : List (Option Descriptor)) → slot < length table → references a (set table slot row) + count_by (refers a) (row_of table slot) ≡ references a table + count_by (refers a) row
+pub references-row : (a : ℕ) (table : Table) (slot : ℕ) (row : List (Option Descriptor)) → slot < length table
+    → references a (set table slot row) + count_by (refers a) (row_of table slot) ≡ references a table + count_by (refers a) row
 references-row a table slot row within = sum_by-set (λ r. count_by (refers a) r) table slot row [] within
 
 pub references-of_row : (a : ℕ) (table : Table) (slot : ℕ) → slot < length table → count_by (refers a) (row_of table slot) ≤ references a table
@@ -51,7 +54,8 @@ references-of_row a table slot within = get_or-le-sum_by (λ r. count_by (refers
 pub references-most : (a n : ℕ) (table : Table) → All (λ row. length row ≡ n) table → references a table ≤ length table * n
 references-most a n table h =
     sum_by-le (λ row. count_by (refers a) row) n table
-    (All-weaker (λ row. length row ≡ n) (λ row. count_by (refers a) row ≤ n) (λ row is. (let most = count_by-le-length (refers a) row in omega (arith, most))) table h)
+    (All-weaker (λ row. length row ≡ n) (λ row. count_by (refers a) row ≤ n) (λ row is. (let most = count_by-le-length (refers a) row in omega (arith, most)))
+    table h)
 
 within-some : {X : Type 0} (xs : List (Option X)) (i : ℕ) (x : X) → get_or xs i None ≡ Some x → i < length xs
 within-some xs i x is = first_of (grind (arith, get_or_past), omega arith)
@@ -63,7 +67,8 @@ refers-own : (d : Descriptor) → refers d.entry (Some d) ≡ true
 refers-own d = eq-eqb d.entry d.entry refl
 
 -- a number that is open is one that refers to its entry
-pub references-some : (table : Table) (slot number : ℕ) (d : Descriptor) → descriptor_at table slot number ≡ Some d → (slot < length table) × (number < length (row_of table slot)) × (0 < references d.entry table)
+pub references-some : (table : Table) (slot number : ℕ) (d : Descriptor) → descriptor_at table slot number ≡ Some d
+    → (slot < length table) × (number < length (row_of table slot)) × (0 < references d.entry table)
 references-some table slot number d is =
     let within = row-some table slot number d is in
     let inside = within-some (row_of table slot) number d is in

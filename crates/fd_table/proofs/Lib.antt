@@ -3,3 +3,5 @@ pub mod KeptLemmas
 pub mod TableLemmas
 pub mod CountsLemmas
 pub mod MapLemmas
+pub mod SharingRows
+mod CallRows

@@ -1,22 +1,24 @@
 -- What each change of the numbers, the files and the counts leaves together.
-use Rattle.std.proofs.Common.{◌≡◌, ◌≢◌, ◌⊎◌, inl, inr, ℕ, zero, suc, ◌+◌, ◌-◌, ◌*◌, ◌<◌, ◌≤◌, Bool, true, false, cond, List, [], ◌∷◌, length, get_or, set, replicate, Option, None, Some, position, count_by, slice_index, eqb, arith, refl, ap, sym, ◌∙◌, subst}
-use Rattle.std.specs.Prelude.{nat_lt, All, is_some, is_none}
-use Rattle.std.specs.List.{position_or_len, sum_by}
+use Rattle.std.proofs.Common.{◌≡◌, inl, inr, ℕ, zero, suc, ◌+◌, ◌-◌, ◌<◌, ◌≤◌, Bool, true, cond, List, [], ◌∷◌, length, get_or, set, replicate, Option, None}
+use Rattle.std.proofs.Common.{Some, count_by, slice_index, eqb, arith, refl, ap, sym, ◌∙◌}
+use Rattle.std.specs.Prelude.{nat_lt, is_some, is_none}
+use Rattle.std.specs.List.{position_or_len}
 use Rattle.std.proofs.lemmas.Bool.Decides.{nat_tests, eqb_tells}
-use Rattle.std.proofs.lemmas.Bool.{eq-eqb, eqb-true}
-use Rattle.std.proofs.lemmas.List.{get_or_past, get_or-set_same, get_or-set_other, set-get_or, length-set, length-replicate, get_or-replicate}
-use Rattle.std.proofs.lemmas.List.Elements.{All-weaker, All-get_or, All-set, All-replicate}
+use Rattle.std.proofs.lemmas.Bool.{eq-eqb}
+use Rattle.std.proofs.lemmas.List.{get_or-set_same, length-replicate}
+use Rattle.std.proofs.lemmas.List.Elements.{All-replicate}
 use Rattle.std.proofs.lemmas.List.Folds.{sum_by-replicate}
-use Rattle.std.proofs.lemmas.List.Sums.{passes_at_first, sum_by-cons, sum_by-set, sum_by-le, count_by-le-length}
+use Rattle.std.proofs.lemmas.List.Sums.{passes_at_first, sum_by-cons, sum_by-set}
 use Rattle.sys_types.specs.declared.limits.TheConstants.{SLOTS, DESCRIPTORS, OPEN_FILES}
 use Rattle.fd_table.specs.declared.open.Descriptor.{Descriptor}
-use Rattle.fd_table.specs.Shared.{Shared, Table, row_of, descriptor_at, put, entry_at, file_at, refers, references, lowest_entry, lowest_number, free_numbers, free_entries, lowest_open, make, copy, fork, files_left, drop_number, files_changed, change_file, unmarked}
+use Rattle.fd_table.specs.Shared.{Shared, Table, row_of, descriptor_at, put, refers, references, lowest_entry, lowest_number, free_numbers, free_entries}
+use Rattle.fd_table.specs.Shared.{lowest_open, last_file, make}
 use Rattle.fd_table.specs.Kept.{IsKept, IsCounted}
 use Rattle.sys_types.specs.declared.rules.Rule.{Rule}
 use Rattle.sys_types.specs.declared.rules.Rule.TheVariants as rule
-use Rattle.fd_table.specs.Calls.{room_rule}
-use Rattle.fd_table.proofs.CountLemmas.{bit, first-none, references-put, references-row, references-of_row, references-most, references-some}
-use Rattle.fd_table.proofs.KeptLemmas.{row-length, file-of, entry-of, entry-within, references-given, references-closed, kept-put, kept-make, kept-drop, kept-fork, kept-change, counted-set, drop-closed, free-entry, left-freed, left-same}
+use Rattle.fd_table.specs.Calls.{room_rule, drop_found, drop_first}
+use Rattle.fd_table.proofs.CountLemmas.{bit, first-none, references-row, references-of_row, references-most}
+use Rattle.fd_table.proofs.KeptLemmas.{row-length, entry-of, entry-within, references-given, references-closed, counted-set, free-entry}
 
 -- a count fits, and so does one more of each number of a slot
 pub count-fits : {F : Type 0} (t : Shared F) (counts : List ℕ) → IsKept t → IsCounted t.table counts → (a : ℕ) → slice_index counts a + 32 < 65536
@@ -69,7 +71,9 @@ entry-there t h some =
     omega (arith, first, entries)
 
 -- a number is given the entry of another
-pub counted-copy : {F : Type 0} (t : Shared F) (counts : List ℕ) (slot number : ℕ) (d : Descriptor) → IsKept t → IsCounted t.table counts → slot < SLOTS → number < DESCRIPTORS → descriptor_at t.table slot number ≡ None → d.entry < OPEN_FILES → IsCounted (put t.table slot number (Some d)) (set counts d.entry (slice_index counts d.entry + 1))
+pub counted-copy : {F : Type 0} (t : Shared F) (counts : List ℕ) (slot number : ℕ) (d : Descriptor) → IsKept t → IsCounted t.table counts → slot < SLOTS
+    → number < DESCRIPTORS → descriptor_at t.table slot number ≡ None → d.entry < OPEN_FILES
+    → IsCounted (put t.table slot number (Some d)) (set counts d.entry (slice_index counts d.entry + 1))
 counted-copy t counts slot number d h n within inside closed there =
     counted-set t.table (put t.table slot number (Some d)) counts d.entry (slice_index counts d.entry + 1) n there
     (let given = references-given t d.entry slot number d h within inside closed in
@@ -84,7 +88,8 @@ counted-copy t counts slot number d h n within inside closed there =
     ]))
 
 -- a number is closed
-pub counted-drop : {F : Type 0} (t : Shared F) (counts : List ℕ) (slot number : ℕ) (d : Descriptor) → IsKept t → IsCounted t.table counts → slot < SLOTS → descriptor_at t.table slot number ≡ Some d → IsCounted (put t.table slot number None) (set counts d.entry (slice_index counts d.entry - 1))
+pub counted-drop : {F : Type 0} (t : Shared F) (counts : List ℕ) (slot number : ℕ) (d : Descriptor) → IsKept t → IsCounted t.table counts → slot < SLOTS
+    → descriptor_at t.table slot number ≡ Some d → IsCounted (put t.table slot number None) (set counts d.entry (slice_index counts d.entry - 1))
 counted-drop t counts slot number d h n within is =
     counted-set t.table (put t.table slot number None) counts d.entry (slice_index counts d.entry - 1) n (entry-of t slot number d h is)
     (let closed = references-closed t d.entry slot number d h within is in
@@ -99,7 +104,8 @@ counted-drop t counts slot number d h n within is =
     ]))
 
 -- how many numbers refer to the entry of a number after that is closed
-pub count-left : {F : Type 0} (t : Shared F) (counts : List ℕ) (slot number : ℕ) (d : Descriptor) → IsKept t → IsCounted t.table counts → slot < SLOTS → descriptor_at t.table slot number ≡ Some d → references d.entry (put t.table slot number None) ≡ slice_index counts d.entry - 1
+pub count-left : {F : Type 0} (t : Shared F) (counts : List ℕ) (slot number : ℕ) (d : Descriptor) → IsKept t → IsCounted t.table counts → slot < SLOTS
+    → descriptor_at t.table slot number ≡ Some d → references d.entry (put t.table slot number None) ≡ slice_index counts d.entry - 1
 count-left t counts slot number d h n within is =
     let closed = references-closed t d.entry slot number d h within is in
     let one : bit (eqb d.entry d.entry) ≡ 1 = ap bit (eq-eqb d.entry d.entry refl) in
@@ -120,7 +126,9 @@ pub none-open : (table : Table) (slot a : ℕ) → lowest_open table slot ≡ No
 none-open table slot a none = none-refers (row_of table slot) a (first-none is_some (row_of table slot) none)
 
 -- a slot without descriptors is given those of another
-pub counted-fork : {F : Type 0} (t : Shared F) (counts new : List ℕ) (from into : ℕ) → IsKept t → IsCounted t.table counts → into < SLOTS → lowest_open t.table into ≡ None → length new ≡ OPEN_FILES → ((a : ℕ) → slice_index new a ≡ slice_index counts a + count_by (refers a) (row_of t.table from)) → IsCounted (set t.table into (row_of t.table from)) new
+pub counted-fork : {F : Type 0} (t : Shared F) (counts new : List ℕ) (from into : ℕ) → IsKept t → IsCounted t.table counts → into < SLOTS
+    → lowest_open t.table into ≡ None → length new ≡ OPEN_FILES
+    → ((a : ℕ) → slice_index new a ≡ slice_index counts a + count_by (refers a) (row_of t.table from)) → IsCounted (set t.table into (row_of t.table from)) new
 counted-fork t counts new from into h n within none long raised = record {
   size = long;
   each = λ a. (
@@ -163,7 +171,8 @@ counted-nothing = record {
 }
 
 -- one place that was free is taken
-pub free-put : {X : Type 0} (xs : List (Option X)) (i : ℕ) (x : X) → i < length xs → get_or xs i None ≡ None → count_by is_none (set xs i (Some x)) + 1 ≡ count_by is_none xs
+pub free-put : {X : Type 0} (xs : List (Option X)) (i : ℕ) (x : X) → i < length xs → get_or xs i None ≡ None
+    → count_by is_none (set xs i (Some x)) + 1 ≡ count_by is_none xs
 free-put {X} xs i x within none =
     let set_one = sum_by-set (λ o. bit (is_none o)) xs i (Some x) None within in
     let one : bit (is_none (get_or xs i None)) ≡ 1 = ap (λ (o : Option X). bit (is_none o)) none in
@@ -175,7 +184,8 @@ row-in (row ∷ table) zero some = omega arith
 row-in (row ∷ table) (suc slot) some = (let more = row-in table slot some in omega (arith, more))
 
 -- after an open at the lowest free number one number less is free, and one entry less
-pub numbers-left : {F : Type 0} (t : Shared F) (slot : ℕ) (file : F) (on_exec : Bool) → 0 < free_numbers t.table slot → free_numbers (make t slot (lowest_number t.table slot) file on_exec).table slot + 1 ≡ free_numbers t.table slot
+pub numbers-left : {F : Type 0} (t : Shared F) (slot : ℕ) (file : F) (on_exec : Bool) → 0 < free_numbers t.table slot
+    → free_numbers (make t slot (lowest_number t.table slot) file on_exec).table slot + 1 ≡ free_numbers t.table slot
 numbers-left t slot file on_exec some =
     let in_table = row-in t.table slot some in
     let d : Descriptor = record { entry = lowest_entry t.files; on_exec = on_exec } in
@@ -183,7 +193,8 @@ numbers-left t slot file on_exec some =
     let same = get_or-set_same t.table slot (set row (lowest_number t.table slot) (Some d)) [] in_table in
     rw same (free-put row (lowest_number t.table slot) d (first-free row some) (number-closed t.table slot some))
 
-pub entries-left : {F : Type 0} (t : Shared F) (slot : ℕ) (file : F) (on_exec : Bool) → 0 < free_entries t.files → free_entries (make t slot (lowest_number t.table slot) file on_exec).files + 1 ≡ free_entries t.files
+pub entries-left : {F : Type 0} (t : Shared F) (slot : ℕ) (file : F) (on_exec : Bool) → 0 < free_entries t.files
+    → free_entries (make t slot (lowest_number t.table slot) file on_exec).files + 1 ≡ free_entries t.files
 entries-left t slot file on_exec some = free-put t.files (lowest_entry t.files) file (first-free t.files some) (free-entry t.files (first-free t.files some))
 
 room-means : (a b n : ℕ) (first second : Rule) → cond (nat_lt a n) (Some first) (cond (nat_lt b n) (Some second) None) ≡ None → (n ≤ a) × (n ≤ b)
@@ -192,3 +203,16 @@ room-means a b n first second none = grind (arith, nat_tests)
 -- where no rule refuses so many files, there are as many numbers and entries
 pub room-none : {F : Type 0} (t : Shared F) (slot n : ℕ) → room_rule t slot n ≡ None → (n ≤ free_numbers t.table slot) × (n ≤ free_entries t.files)
 room-none t slot n none = room-means (free_numbers t.table slot) (free_entries t.files) n rule.FdRoom rule.OpenRoom none
+
+-- a slot of which `drop_first` finds no number has no descriptor, and the table is as it was
+pub drop_none : {F : Type 0} (t new : Shared F) (slot : ℕ) → (new, None) ≡ drop_first t slot → (new ≡ t) × (lowest_open t.table slot ≡ None)
+drop_none {F} t new slot is =
+    elim (lowest_open t.table slot) as (λ o. lowest_open t.table slot ≡ o → (new, None) ≡ drop_found t slot o → (new ≡ t) × (lowest_open t.table slot ≡ None)) [
+      | None ↦ λ none same. (ap (λ (p : Shared F × Option (Option F)). p.0) same, none)
+      | Some number ↦ λ some other. (let no : None ≡ Some (last_file t slot number) = ap (λ (p : Shared F × Option (Option F)). p.1) other in cc)
+    ] refl is
+
+pub closed_by : {F : Type 0} (t new : Shared F) (slot : ℕ) → (new, None) ≡ drop_first t slot → lowest_open new.table slot ≡ None
+closed_by {F} t new slot is =
+    let all = drop_none t new slot is in
+    ap (λ (s : Shared F). lowest_open s.table slot) all.0 ∙ all.1

@@ -17,26 +17,24 @@ room_rule t slot files =
 abbrev pub open_lowest : {F : Type 0} → Shared F → ℕ → F → Bool → Shared F × ℕ
 open_lowest t slot file on_exec = (make t slot (lowest_number t.table slot) file on_exec, lowest_number t.table slot)
 
-abbrev pub opened_or : {F : Type 0} → Option Rule → Shared F → Shared F × ℕ → Shared F × Result ℕ Rule
-opened_or (Some rule) t opened = (t, Err rule)
-opened_or None t opened = (opened.0, Ok opened.1)
+-- a call that a rule refuses changes nothing
+abbrev pub refuse_or : {F A : Type 0} → Option Rule → Shared F → Shared F × A → Shared F × Result A Rule
+refuse_or (Some rule) t outcome = (t, Err rule)
+refuse_or None t outcome = (outcome.0, Ok outcome.1)
 
 abbrev pub open_new : {F : Type 0} → Shared F → ℕ → F → Bool → Shared F × Result ℕ Rule
-open_new t slot file on_exec = opened_or (room_rule t slot 1) t (open_lowest t slot file on_exec)
+open_new t slot file on_exec = refuse_or (room_rule t slot 1) t (open_lowest t slot file on_exec)
 
-abbrev pub second_of : {F : Type 0} → ℕ → Shared F × ℕ → Shared F × Result (ℕ × ℕ) Rule
-second_of first opened = (opened.0, Ok (first, opened.1))
+-- two files are opened at the two lowest free numbers
+abbrev pub open_both : {F : Type 0} → Shared F → ℕ → F → F → Shared F × (ℕ × ℕ)
+open_both t slot a b =
+    let first = open_lowest t slot a false in
+    let second = open_lowest first.0 slot b false in
+    (second.0, (first.1, second.1))
 
-abbrev pub pair_of : {F : Type 0} → ℕ → F → Shared F × ℕ → Shared F × Result (ℕ × ℕ) Rule
-pair_of slot file opened = second_of opened.1 (open_lowest opened.0 slot file false)
-
-abbrev pub pair_or : {F : Type 0} → Option Rule → Shared F → Shared F × Result (ℕ × ℕ) Rule → Shared F × Result (ℕ × ℕ) Rule
-pair_or (Some rule) t opened = (t, Err rule)
-pair_or None t opened = opened
-
--- two files are opened at the two lowest free numbers, or none
+-- both are opened, or none
 abbrev pub open_pair : {F : Type 0} → Shared F → ℕ → F → F → Shared F × Result (ℕ × ℕ) Rule
-open_pair t slot a b = pair_or (room_rule t slot 2) t (pair_of slot b (open_lowest t slot a false))
+open_pair t slot a b = refuse_or (room_rule t slot 2) t (open_both t slot a b)
 
 -- the lowest free number refers to the file of a number
 abbrev pub dup : {F : Type 0} → Shared F → ℕ → ℕ → Shared F × Result ℕ Rule

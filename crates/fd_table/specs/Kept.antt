@@ -1,5 +1,5 @@
 -- What holds of every table of open files.
-use Rattle.std.specs.Prelude.{◌≡◌, ℕ, ◌<◌, List, [], true, None, length, is_some, replicate, slice_index, All}
+use Rattle.std.specs.Prelude.{◌≡◌, ℕ, ◌<◌, List, true, None, length, is_some, replicate, slice_index, All}
 use Rattle.sys_types.specs.declared.limits.TheConstants.{SLOTS, DESCRIPTORS, OPEN_FILES}
 use Rattle.fd_table.specs.Shared.{Shared, Table, references, entry_at}
 

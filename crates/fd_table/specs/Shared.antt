@@ -1,7 +1,8 @@
 -- Open files that descriptors share, after open(2), dup(2), fork(2) and close(2): each open file stands in an entry of one table, as
 -- in the file table of a system, and each number of a slot refers to an entry. What is kept of a file, F, may be one thing in a state
 -- of the machine and another in what calls see of it; all else is the same in both.
-use Rattle.std.specs.Prelude.{ℕ, Bool, true, false, ◌==◌, List, [], map, Option, Some, None, is_none, is_some, option_map, position, count_by, slice_index_or, slice_set, if◌then◌else◌}
+use Rattle.std.specs.Prelude.{ℕ, Bool, false, ◌==◌, List, [], map, Option, Some, None, is_none, is_some, option_map, position, count_by, slice_index_or}
+use Rattle.std.specs.Prelude.{slice_set, if◌then◌else◌}
 use Rattle.std.specs.List.{sum_by, position_or_len}
 use Rattle.fd_table.specs.declared.open.Descriptor.{Descriptor}
 
@@ -79,43 +80,43 @@ make t slot number file on_exec = record {
 }
 
 -- not closed on exec
-abbrev pub unmarked : Descriptor → Descriptor
-unmarked d = record d { on_exec = false }
+abbrev pub without_mark : Descriptor → Descriptor
+without_mark d = record d { on_exec = false }
 
 -- another number of a slot refers to the file of this one, without its mark
 abbrev pub copy : {F : Type 0} → Shared F → ℕ → ℕ → ℕ → Shared F
-copy t slot from into = record t { table = put t.table slot into (option_map unmarked (descriptor_at t.table slot from)) }
+copy t slot from into = record t { table = put t.table slot into (option_map without_mark (descriptor_at t.table slot from)) }
 
 -- each number of a slot refers to the file of that of another slot, with its mark
 abbrev pub fork : {F : Type 0} → Shared F → ℕ → ℕ → Shared F
 fork t from into = record t { table = slice_set t.table into (row_of t.table from) }
 
 -- the files, of which that of a number goes when no number refers to it any more
-abbrev pub files_left : {F : Type 0} → Option Descriptor → Table → List (Option F) → List (Option F)
-files_left None table files = files
-files_left (Some d) table files = if references d.entry table == 0 then slice_set files d.entry None else files
+abbrev pub files_after : {F : Type 0} → Option Descriptor → Table → List (Option F) → List (Option F)
+files_after None table files = files
+files_after (Some d) table files = if references d.entry table == 0 then slice_set files d.entry None else files
 
 -- a number of a slot is closed
 abbrev pub drop_number : {F : Type 0} → Shared F → ℕ → ℕ → Shared F
 drop_number t slot number =
     let after = put t.table slot number None in
-    record { table = after; files = files_left (descriptor_at t.table slot number) after t.files }
+    record { table = after; files = files_after (descriptor_at t.table slot number) after t.files }
 
-abbrev pub file_gone : {F : Type 0} → Option Descriptor → Table → List (Option F) → Option F
-file_gone None table files = None
-file_gone (Some d) table files = if references d.entry table == 0 then entry_at files d.entry else None
+abbrev pub unreferenced : {F : Type 0} → Option Descriptor → Table → List (Option F) → Option F
+unreferenced None table files = None
+unreferenced (Some d) table files = if references d.entry table == 0 then entry_at files d.entry else None
 
 -- the file that goes when a number is closed: its file, where no other number refers to it
 abbrev pub last_file : {F : Type 0} → Shared F → ℕ → ℕ → Option F
-last_file t slot number = file_gone (descriptor_at t.table slot number) (put t.table slot number None) t.files
+last_file t slot number = unreferenced (descriptor_at t.table slot number) (put t.table slot number None) t.files
 
-abbrev pub files_changed : {F : Type 0} → (F → F) → Option Descriptor → List (Option F) → List (Option F)
-files_changed how None files = files
-files_changed how (Some d) files = slice_set files d.entry (option_map how (entry_at files d.entry))
+abbrev pub change_in : {F : Type 0} → (F → F) → Option Descriptor → List (Option F) → List (Option F)
+change_in how None files = files
+change_in how (Some d) files = slice_set files d.entry (option_map how (entry_at files d.entry))
 
 -- the file of a number is changed, for all numbers that refer to it
 abbrev pub change_file : {F : Type 0} → (F → F) → Shared F → ℕ → ℕ → Shared F
-change_file how t slot number = record t { files = files_changed how (descriptor_at t.table slot number) t.files }
+change_file how t slot number = record t { files = change_in how (descriptor_at t.table slot number) t.files }
 
 abbrev pub holds : {F : Type 0} → (F → Bool) → Option F → Bool
 holds test None = false

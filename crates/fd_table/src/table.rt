@@ -3,7 +3,8 @@ ghost use Rattle.std.specs.Prelude.{◌≡◌, ℕ, ◌+◌, ◌<◌, ◌≤◌,
 ghost use Rattle.sys_types.specs.declared.limits.TheConstants.{SLOTS, DESCRIPTORS};
 ghost use Rattle.fd_table.specs.Kept.{nothing_open};
 ghost use Rattle.fd_table.specs.Opens.{at_offset, is_of};
-ghost use Rattle.fd_table.specs.Shared.{file_at, descriptor_at, entry_at, free_numbers, free_entries, lowest_open, copy, fork, put, drop_number, last_file, change_file, count_files};
+ghost use Rattle.fd_table.specs.Shared.{file_at, descriptor_at, entry_at, free_numbers, free_entries, lowest_open, copy, fork, put, drop_number, last_file};
+ghost use Rattle.fd_table.specs.Shared.{change_file, count_files};
 ghost use Rattle.fd_table.specs.Calls as calls;
 
 use crate::counts::Counts;

@@ -1,3 +1,4 @@
 pub mod MapLemmas
 pub mod BlockLemmas
 pub mod PlaceLemmas
+mod WorkedRows

@@ -4,8 +4,8 @@ use Rattle.block_pool.specs.Chain.{ChainState}
 use Rattle.pipe_core.specs.declared.pipes.Labelled.{Labelled}
 use Rattle.pipe_core.specs.Pipes.{Held, Pipes}
 
-abbrev pub held : Labelled → Held ChainState
-held l = record { contents = l.pipe; element = l.element }
+abbrev pub held_of : Labelled → Held ChainState
+held_of l = record { contents = l.pipe; element = l.element }
 
-abbrev pub seen : List (Option Labelled) → Pipes ChainState
-seen places = map (option_map held) places
+abbrev pub pipes_of : List (Option Labelled) → Pipes ChainState
+pipes_of places = map (option_map held_of) places

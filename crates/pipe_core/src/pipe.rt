@@ -62,6 +62,7 @@ impl Pipe {
         ensures pool { OnFalse result (pool.new ≡ pool.old) }
         ensures blocks { self.new.blocks ≡ self.old.blocks }
         ensures writes { WritesTo self.old.blocks pool.old pool.new }
+        ensures of_pool { AreOf pool.new self.new.blocks }
         ensures others { (other : ChainState) → AreApart self.old.blocks other.blocks → holds pool.new other ≡ holds pool.old other }
     {
         if usize::from(self.chain.room()) < bytes.len() {
@@ -77,17 +78,17 @@ impl Pipe {
     pub fn take(&mut self, pool: &Pool, max: u16) -> Piece
         requires of_pool { AreOf pool.now self.old.blocks }
         requires max { max ≤ PIECE_BYTES }
-        ensures taken { result ≡ take max (holds pool.now self.old) }
-        ensures left { holds pool.now self.new ≡ drop max (holds pool.now self.old) }
+        ensures front { result ≡ take max (holds pool.now self.old) }
+        ensures rest { holds pool.now self.new ≡ drop max (holds pool.now self.old) }
         ensures blocks { self.new.blocks ≡ self.old.blocks }
     {
         let count = max.min(self.chain.len());
-        let mut taken: ArrayVec<u8, PIECE_BYTES> = ArrayVec::new();
+        let mut bytes: ArrayVec<u8, PIECE_BYTES> = ArrayVec::new();
         for _ in 0..count {
             if let Some(byte) = self.chain.pop_front(pool) {
-                taken.push(byte);
+                bytes.push(byte);
             }
         }
-        Piece::from_slice(taken.as_slice()).unwrap()
+        Piece::from_slice(bytes.as_slice()).unwrap()
     }
 }

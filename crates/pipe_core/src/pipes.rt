@@ -1,5 +1,6 @@
 //! The table of pipes.
-ghost use Rattle.std.specs.Prelude.{◌≡◌, ℕ, ◌+◌, ◌<◌, ◌≤◌, ◌↔◌, ◌++◌, length, replicate, take, Some, None, is_none, option_copied, option_map, position, slice_index_or, slice_set, IsTrue};
+ghost use Rattle.std.specs.Prelude.{◌≡◌, ℕ, ◌+◌, ◌<◌, ◌≤◌, ◌↔◌, ◌++◌, length, replicate, take, Some, None, is_none, option_copied, option_map, position};
+ghost use Rattle.std.specs.Prelude.{slice_index_or, slice_set, IsTrue};
 ghost use Rattle.std.specs.Bool.{OnTrue, OnFalse};
 ghost use Rattle.sys_types.specs.declared.limits.TheConstants.{PIPES, PIECE_BYTES};
 ghost use Rattle.block_pool.specs.Pool.{AreOf, WritesTo, times};
@@ -33,11 +34,11 @@ impl Model for Pipes {
     ghost use Rattle.sys_types.specs.declared.limits.TheConstants.{PIPES};
     ghost use Rattle.block_pool.specs.Chain.{ChainState};
     ghost use Rattle.pipe_core.specs.Pipes as spec;
-    ghost use Rattle.pipe_core.specs.Labelled.{seen};
+    ghost use Rattle.pipe_core.specs.Labelled.{pipes_of};
 
     ghost Value = { spec.Pipes ChainState };
 
-    ghost view = { λ p. seen p.places };
+    ghost view = { λ p. pipes_of p.places };
 
     ghost invariant = { λ p. length p.places ≡ PIPES };
 }
@@ -52,7 +53,7 @@ fn lowest_of(places: &[Option<Labelled>]) -> Option<usize>
 fn take_of(places: &mut [Option<Labelled>], k: u16) -> Option<Labelled>
     requires { k < length places.old }
     ensures places { places.new ≡ slice_set places.old k None }
-    ensures taken { result ≡ slice_index_or places.old k None }
+    ensures place { result ≡ slice_index_or places.old k None }
 {
     places[usize::from(k)].take()
 }
@@ -110,12 +111,14 @@ impl Pipes {
     pub fn put(&mut self, k: u16, pool: &mut Pool, bytes: &[u8]) -> bool
         requires there { IsTrue (is_there self.old k) }
         requires of_pool { AreOf pool.old (blocks_of self.old) }
-        ensures fits { (pipe : ChainState) → contents_at self.old k ≡ Some pipe → (IsTrue result ↔ (length (holds pool.old pipe) + length bytes.now ≤ places pipe)) }
+        ensures fits { (pipe : ChainState) → contents_at self.old k ≡ Some pipe
+            → (IsTrue result ↔ (length (holds pool.old pipe) + length bytes.now ≤ places pipe)) }
         ensures put { OnTrue result (bytes_of pool.new self.new ≡ put (bytes_of pool.old self.old) k bytes.now) }
         ensures pipes { OnFalse result (self.new ≡ self.old) }
         ensures pool { OnFalse result (pool.new ≡ pool.old) }
         ensures blocks { blocks_of self.new ≡ blocks_of self.old }
         ensures writes { WritesTo (blocks_of self.old) pool.old pool.new }
+        ensures of_pool { AreOf pool.new (blocks_of self.new) }
     {
         match &mut self.places[usize::from(k)] {
             Some(labelled) => labelled.pipe.put(pool, bytes),
@@ -129,8 +132,8 @@ impl Pipes {
         requires there { IsTrue (is_there self.old k) }
         requires of_pool { AreOf pool.now (blocks_of self.old) }
         requires max { max ≤ PIECE_BYTES }
-        ensures taken { Some result ≡ option_map (take max) (contents_at (bytes_of pool.now self.old) k) }
-        ensures left { bytes_of pool.now self.new ≡ take_front (bytes_of pool.now self.old) k max }
+        ensures front { Some result ≡ option_map (take max) (contents_at (bytes_of pool.now self.old) k) }
+        ensures rest { bytes_of pool.now self.new ≡ take_front (bytes_of pool.now self.old) k max }
         ensures blocks { blocks_of self.new ≡ blocks_of self.old }
     {
         match &mut self.places[usize::from(k)] {

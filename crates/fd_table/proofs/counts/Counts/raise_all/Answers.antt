@@ -1,4 +1,4 @@
-use Rattle.std.proofs.Common.{◌≡◌, ◌<◌, ◌+◌, ◌≤◌, ℕ, List, length, None, Some, count_by, slice_index, take, sym, ap, ◌∙◌, arith, subst}
+use Rattle.std.proofs.Common.{◌+◌, slice_index, ◌∙◌, arith}
 use Rattle.std.proofs.lemmas.List.{length-set}
 use Rattle.std.proofs.lemmas.List.Sums.{count_by-le-length}
 use Rattle.fd_table.specs.Shared.{refers}
@@ -26,8 +26,9 @@ loop-descriptor-preserved c =
           let some = row-some c.args.row.now c.loop-descriptor.descriptor-index w.in-Some.descriptor c.loop-descriptor-test.true w.in-Some.is in
           let there = c.requires.there w.in-Some.descriptor.entry (omega (arith, some)) in
           let size = w.raise.ensures.size in
+          let count = slice_index c.loop-descriptor.self w.in-Some.descriptor.entry + 1 in
           rw (w.self-is, w.raise.ensures.counts) (
-            length-set c.loop-descriptor.self w.in-Some.descriptor.entry (slice_index c.loop-descriptor.self w.in-Some.descriptor.entry + 1) ∙ c.loop-descriptor.invariant.0,
+            length-set c.loop-descriptor.self w.in-Some.descriptor.entry count ∙ c.loop-descriptor.invariant.0,
             λ entry. raised-some c.args.self.now c.loop-descriptor.self c.args.row.now c.loop-descriptor.descriptor-index entry w.in-Some.descriptor
                 c.loop-descriptor-test.true w.in-Some.is (omega (arith, there, size)) (c.loop-descriptor.invariant.1 entry),
           ))

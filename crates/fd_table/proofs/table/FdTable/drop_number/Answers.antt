@@ -1,7 +1,7 @@
-use Rattle.std.proofs.Common.{◌≡◌, ◌<◌, ◌-◌, ℕ, List, Option, Some, None, slice_index, sym, ap, ◌∙◌, arith, subst}
+use Rattle.std.proofs.Common.{◌≡◌, ◌<◌, List, Option, Some, None, sym, ◌∙◌, arith, subst}
 use Rattle.fd_table.specs.declared.open.Open.{Open}
 use Rattle.fd_table.specs.Shared.{Shared, descriptor_at, references, put}
-use Rattle.fd_table.specs.Kept.{IsKept, IsCounted}
+use Rattle.fd_table.specs.Kept.{IsKept}
 use Rattle.fd_table.proofs.KeptLemmas.{entry-of, kept-open, left-freed, left-same}
 use Rattle.fd_table.proofs.TableLemmas.{counted-drop, count-left}
 use Rattle.fd_table.proofs.table.FdTable.drop_number.Goals as goal

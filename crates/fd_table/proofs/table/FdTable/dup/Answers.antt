@@ -1,7 +1,6 @@
-use Rattle.std.proofs.Common.{◌≡◌, ◌<◌, ℕ, None, sym, ap, ◌∙◌, arith, subst}
+use Rattle.std.proofs.Common.{◌≡◌, ◌<◌, ℕ, None, sym, arith, subst}
 use Rattle.fd_table.specs.declared.open.Open.{Open}
 use Rattle.fd_table.specs.Shared.{Shared, descriptor_at, free_numbers}
-use Rattle.sys_types.specs.declared.limits.TheConstants.{DESCRIPTORS}
 use Rattle.fd_table.proofs.TableLemmas.{number-there, number-closed}
 use Rattle.fd_table.proofs.table.FdTable.dup.Goals as goal
 

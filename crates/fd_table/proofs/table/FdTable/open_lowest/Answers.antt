@@ -1,4 +1,4 @@
-use Rattle.std.proofs.Common.{◌≡◌, ◌<◌, ◌+◌, ℕ, None, sym, ap, ◌∙◌, arith, subst, slice_index}
+use Rattle.std.proofs.Common.{◌≡◌, ◌<◌, None, sym, arith, subst}
 use Rattle.fd_table.specs.declared.open.Open.{Open}
 use Rattle.fd_table.specs.declared.open.Descriptor.{Descriptor}
 use Rattle.fd_table.specs.Shared.{Shared, descriptor_at, free_numbers, free_entries, lowest_entry, lowest_number}
@@ -9,7 +9,8 @@ use Rattle.fd_table.proofs.table.FdTable.open_lowest.Goals as goal
 pub put-requires-clause-number : goal.put-requires-clause-number
 put-requires-clause-number c =
     let t : Shared Open = record { table = c.self.inside.rows; files = c.self.inside.files } in
-    let some : 0 < free_numbers c.self.inside.rows c.args.slot = subst (λ (v : Shared Open). 0 < free_numbers v.table c.args.slot) (sym c.self.view_is) c.requires.number in
+    let some : 0 < free_numbers c.self.inside.rows c.args.slot =
+    subst (λ (v : Shared Open). 0 < free_numbers v.table c.args.slot) (sym c.self.view_is) c.requires.number in
     rw c.lowest_free-number.ensures.lowest (number-there t c.args.slot c.self.invariant.0 c.requires.slot some)
 
 pub put-requires-2 : goal.put-requires-2
@@ -35,7 +36,8 @@ invariant_of-self c =
     let t : Shared Open = record { table = c.self.inside.rows; files = c.self.inside.files } in
     let number = lowest_number c.self.inside.rows c.args.slot in
     let d : Descriptor = record { entry = lowest_entry c.self.inside.files; on_exec = c.args.on_exec } in
-    let some : 0 < free_numbers c.self.inside.rows c.args.slot = subst (λ (v : Shared Open). 0 < free_numbers v.table c.args.slot) (sym c.self.view_is) c.requires.number in
+    let some : 0 < free_numbers c.self.inside.rows c.args.slot =
+    subst (λ (v : Shared Open). 0 < free_numbers v.table c.args.slot) (sym c.self.view_is) c.requires.number in
     let more : 0 < free_entries c.self.inside.files = subst (λ (v : Shared Open). 0 < free_entries v.files) (sym c.self.view_is) c.requires.entry in
     let inside = number-there t c.args.slot c.self.invariant.0 c.requires.slot some in
     let there = entry-there t c.self.invariant.0 more in

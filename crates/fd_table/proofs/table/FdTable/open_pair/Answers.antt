@@ -1,4 +1,4 @@
-use Rattle.std.proofs.Common.{◌≡◌, ◌<◌, ◌≤◌, ◌+◌, ℕ, false, sym, ap, ◌∙◌, arith, subst}
+use Rattle.std.proofs.Common.{◌<◌, ℕ, false, sym, ap, ◌∙◌, arith}
 use Rattle.fd_table.specs.declared.open.Open.{Open}
 use Rattle.fd_table.specs.Shared.{Shared, free_numbers, free_entries}
 use Rattle.fd_table.proofs.TableLemmas.{room-none, numbers-left, entries-left}
