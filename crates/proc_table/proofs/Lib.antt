@@ -1,0 +1,13 @@
+mod ListLemmas
+mod EndingListLemmas
+mod OrderLemmas
+mod RisingLemmas
+pub mod MapLemmas
+mod PidLemmas
+mod PidOrderLemmas
+mod Scenes
+mod SignalRows
+mod ForkRows
+mod EndingRows
+mod WaitRows
+pub mod SoundLemmas

@@ -1,0 +1,138 @@
+-- Posts and ends keep the slots, and leave on the list of those to be ended each process once.
+use Rattle.std.proofs.Common.{◌≡◌, ℕ, zero, suc, ◌+◌, ◌<◌, ◌≤◌, Bool, true, false, cond, List, [], ◌∷◌, ◌++◌, map, length, fold, filter, refl, ap, sym, ◌∙◌}
+use Rattle.std.proofs.Common.{subst, arith}
+use Rattle.std.specs.Prelude.{◌&&◌, Option, Some, None, is_none, option_map, option_and_then, slice_index_or, slice_set, slice_get}
+use Rattle.std.proofs.lemmas.List.{length-set, length-map}
+use Rattle.sys_types.specs.declared.limits.TheConstants.{SLOTS}
+use Rattle.sys_types.specs.declared.sig.Sig.{Sig}
+use Rattle.sys_types.specs.declared.sig.Sig.TheVariants as sig
+use Rattle.call_words.specs.declared.event.How.{How}
+use Rattle.call_words.specs.declared.event.How.TheVariants as how
+use Rattle.call_words.specs.declared.signal.To.{To}
+use Rattle.call_words.specs.declared.signal.To.TheVariants as to
+use Rattle.proc_table.specs.declared.post.Disposition.{Disposition}
+use Rattle.proc_table.specs.declared.post.Disposition.TheVariants as disposition
+use Rattle.proc_table.specs.Processes.{Process, Slot, empty_slot, Processes, slot_at, process_at, running_of, running_at, put_slot, change_process, holds}
+use Rattle.proc_table.specs.Processes.{slot_of, add_caught}
+use Rattle.proc_table.specs.Posts.{Posted, disposition_of, continue, continue_at, add_ending, is_ending, IsEndingList, catches_child, catch_child, post_child}
+use Rattle.proc_table.specs.Posts.{stop, dispose, post_if_running, post_at, post_all, post, receivers}
+use Rattle.proc_table.specs.Endings.{adopt_in, adopt_all, end_in, end_process, end_at, groups_orphaned_by, hang_up, bury}
+use Rattle.proc_table.proofs.EndingListLemmas.{has-room, list-behind}
+
+-- a running process stands in one of the slots
+within-slots : {D : Type 0} (slots : List (Slot D)) (slot : ℕ) (p : Process D)
+    → option_and_then running_of (slice_index_or slots slot empty_slot).process ≡ Some p → slot < length slots
+within-slots [] slot p is = cc
+within-slots (s ∷ ss) zero p is = omega arith
+within-slots (s ∷ ss) (suc slot) p is = let below = within-slots ss slot p is in omega arith
+
+-- there are 32 slots, and each process to be ended stands in one of them and once on the list
+pub record IsSound {D : Type 0} (t : Processes D) (ending : List (ℕ × How)) : Type 0 where
+  pub slots : length t.slots ≡ SLOTS
+  pub list : IsEndingList ending
+
+put-length : {D : Type 0} (t : Processes D) (slot : ℕ) (s : Slot D) → length (put_slot t slot s).slots ≡ length t.slots
+put-length t slot s = length-set t.slots slot s
+
+continue-length : {D : Type 0} (signal : Sig) (t : Processes D) (slot : ℕ) → length (continue_at signal t slot).slots ≡ length t.slots
+continue-length sig.HUP t slot = refl
+continue-length sig.INT t slot = refl
+continue-length sig.QUIT t slot = refl
+continue-length sig.KILL t slot = refl
+continue-length sig.PIPE t slot = refl
+continue-length sig.TERM t slot = refl
+continue-length sig.STOP t slot = refl
+continue-length sig.TSTP t slot = refl
+continue-length sig.CONT t slot = put-length t slot _
+continue-length sig.CHLD t slot = refl
+continue-length sig.TTIN t slot = refl
+continue-length sig.TTOU t slot = refl
+continue-length sig.USR1 t slot = refl
+continue-length sig.USR2 t slot = refl
+
+catch-length : {D : Type 0} (t : Processes D) (slot : Option ℕ) → length (catch_child t slot).slots ≡ length t.slots
+catch-length t None = refl
+catch-length t (Some slot) = by_case (holds catches_child (running_at t slot))
+  where
+    by_case : (b : Bool) → length (cond b (change_process (add_caught sig.CHLD) t slot) t).slots ≡ length t.slots
+    by_case true = put-length t slot _
+    by_case false = refl
+
+child-length : {D : Type 0} (t : Processes D) (parent : ℕ) → length (post_child t parent).slots ≡ length t.slots
+unfolding post_child
+child-length t parent = catch-length t (slot_of t parent)
+
+sound-add : (ending : List (ℕ × How)) (slot : ℕ) (why : How) → slot < SLOTS → IsEndingList ending → IsEndingList (add_ending ending slot why)
+sound-add ending slot why below list = by_case (is_ending ending slot) refl
+  where
+    by_case : (b : Bool) → is_ending ending slot ≡ b → IsEndingList (cond b ending (ending ++ (slot, why) ∷ []))
+    by_case true is = list
+    by_case false is = list-behind ending slot why list is below
+
+sound-dispose : {D : Type 0} (d : Disposition) (signal : Sig) (slot parent : ℕ) (t : Processes D) (ending : List (ℕ × How)) → slot < SLOTS → IsSound t ending
+    → IsSound (dispose d signal slot parent (record {
+      table =
+          t;
+      ending = ending;
+    })).table (dispose d signal slot parent (record { table = t; ending = ending })).ending
+sound-dispose disposition.End signal slot parent t ending below sound =
+    record { slots = sound.slots; list = sound-add ending slot (how.Signal signal) below sound.list }
+sound-dispose disposition.Stop signal slot parent t ending below sound = record {
+  slots = child-length (change_process (stop signal) t slot) parent ∙ put-length t slot _ ∙ sound.slots;
+  list = sound.list;
+}
+sound-dispose disposition.Catch signal slot parent t ending below sound = record { slots = put-length t slot _ ∙ sound.slots; list = sound.list }
+sound-dispose disposition.Nothing signal slot parent t ending below sound = sound
+
+sound-if : {D : Type 0} (signal : Sig) (slot : ℕ) (t : Processes D) (ending : List (ℕ × How)) (o : Option (Process D)) → running_at t slot ≡ o
+    → IsSound t ending
+    → IsSound (post_if_running signal slot (record {
+      table =
+          t;
+      ending = ending;
+    }) o).table (post_if_running signal slot (record { table = t; ending = ending }) o).ending
+sound-if signal slot t ending None is sound = sound
+sound-if signal slot t ending (Some p) is sound =
+    let below : slot < SLOTS = subst (λ n. slot < n) sound.slots (within-slots t.slots slot p is) in
+    sound-dispose (disposition_of t p signal) signal slot p.parent (continue_at signal t slot) ending below
+    (record { slots = continue-length signal t slot ∙ sound.slots; list = sound.list })
+
+sound-all : {D : Type 0} (signal : Sig) (slots : List ℕ) (posted : Posted D) → IsSound posted.table posted.ending
+    → IsSound (post_all signal slots posted).table (post_all signal slots posted).ending
+sound-all signal [] posted sound = sound
+sound-all signal (slot ∷ slots) posted sound =
+    sound-all signal slots (post_at signal posted slot) (sound-if signal slot posted.table posted.ending (running_at posted.table slot) refl sound)
+
+pub sound_post : {D : Type 0} (t : Processes D) (signal : Sig) (whom : To) (ending : List (ℕ × How)) → IsSound t ending
+    → IsSound (post t signal whom ending).table (post t signal whom ending).ending
+sound_post t signal whom ending sound = sound-all signal (receivers t whom) (record { table = t; ending = ending }) sound
+
+-- ---- an ending
+
+end-length : {D : Type 0} (t : Processes D) (slot : ℕ) (why : How) (o : Option (Process D)) → length (end_process t slot why o).slots ≡ length t.slots
+end-length t slot why None = refl
+end-length t slot why (Some p) =
+    child-length (end_in (adopt_all t p.pid) slot why) p.parent ∙ put-length (adopt_all t p.pid) slot _ ∙ length-map t.slots (adopt_in p.pid)
+
+ends-length : {D : Type 0} (t : Processes D) (slot : ℕ) (why : How) → length (end_at t slot why).slots ≡ length t.slots
+unfolding end_at
+ends-length t slot why = end-length t slot why (running_at t slot)
+
+sound-hang_up : {D : Type 0} (groups : List ℕ) (posted : Posted D) → IsSound posted.table posted.ending
+    → IsSound (fold hang_up posted groups).table (fold hang_up posted groups).ending
+sound-hang_up [] posted sound = sound
+sound-hang_up (group ∷ groups) posted sound =
+    let first = sound_post posted.table sig.HUP (to.Group group) posted.ending sound in
+    let after = post posted.table sig.HUP (to.Group group) posted.ending in
+    sound-hang_up groups (hang_up posted group) (sound_post after.table sig.CONT (to.Group group) after.ending first)
+
+pub sound_bury : {D : Type 0} (t : Processes D) (slot : ℕ) (why : How) (ending : List (ℕ × How)) → IsSound t ending
+    → IsSound (bury t slot why ending).table (bury t slot why ending).ending
+sound_bury t slot why ending sound =
+    sound-hang_up (groups_orphaned_by t (end_at t slot why)) (record { table = end_at t slot why; ending = ending })
+    (record { slots = ends-length t slot why ∙ sound.slots; list = sound.list })
+
+-- as many are to be ended as there are slots, at the most
+pub sound_most : (ending : List (ℕ × How)) → IsEndingList ending → length ending ≤ SLOTS
+sound_most [] list = omega arith
+sound_most (e ∷ es) list = let room = has-room es e.0 e.1 list.2 list.1 list.0 in omega arith

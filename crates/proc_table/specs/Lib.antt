@@ -1,0 +1,10 @@
+pub mod Processes
+pub mod Forks
+pub mod Posts
+pub mod Endings
+pub mod Reaping
+pub mod Procs
+pub mod Roles
+pub mod Groups
+pub mod Kept
+pub mod Order
