@@ -1,17 +1,18 @@
 -- The parts of a text, one at a time.
-use Rattle.std.proofs.Common.{◌≡◌, ℕ, ◌+◌, ◌-◌, ◌≤◌, false, true, List, [], ◌∷◌, length, take, drop, Some, None, refl, sym, ap, ◌∙◌, arith, eqb, ltb, cond, ltb-true, ltb-false, length-drop}
+use Rattle.std.proofs.Common.{◌≡◌, ℕ, ◌+◌, ◌-◌, ◌≤◌, false, true, List, [], ◌∷◌, length, take, drop, Some, None, refl, sym, ap, ◌∙◌, arith, eqb, ltb, cond}
+use Rattle.std.proofs.Common.{ltb-true, ltb-false, length-drop}
 use Rattle.std.proofs.Math.Seq.{take-length}
 use Rattle.std.specs.Prelude.{position}
 use Rattle.std.specs.List.{slice_split, position_or_len}
 use Rattle.std.proofs.lemmas.List.{drop-drop}
 use Rattle.std.proofs.lemmas.List.Splits.{slice_split_none, slice_split_first}
 use Rattle.std.proofs.lemmas.List.Sums.{fails_before_first}
-use Rattle.script_text.specs.Words.{parted}
+use Rattle.script_text.specs.Words.{parts_of}
 
 -- a text without the mark is one part
-pub parted_one : (m : ℕ) (l : List ℕ) → position (λ b. eqb b m) l ≡ None → parted m l ≡ l ∷ []
-unfolding parted
-parted_one m l h =
+pub one_part : (m : ℕ) (l : List ℕ) → position (λ b. eqb b m) l ≡ None → parts_of m l ≡ l ∷ []
+unfolding parts_of
+one_part m l h =
     let p = position_or_len (λ b. eqb b m) l in
     elim (ltb p (length l)) as (λ b. ltb p (length l) ≡ b → cond b (Some p) None ≡ None → slice_split (λ b. eqb b m) l ≡ l ∷ []) [
       | true ↦ λ test none. cc
@@ -21,9 +22,9 @@ parted_one m l h =
     ] refl h
 
 -- the first part stands before the first mark
-pub parted_more : (m : ℕ) (l : List ℕ) (k : ℕ) → position (λ b. eqb b m) l ≡ Some k → parted m l ≡ take k l ∷ parted m (drop (k + 1) l)
-unfolding parted
-parted_more m l k h =
+pub first_part : (m : ℕ) (l : List ℕ) (k : ℕ) → position (λ b. eqb b m) l ≡ Some k → parts_of m l ≡ take k l ∷ parts_of m (drop (k + 1) l)
+unfolding parts_of
+first_part m l k h =
     let p = position_or_len (λ b. eqb b m) l in
     elim (ltb p (length l)) as
     (λ b. ltb p (length l) ≡ b → cond b (Some p) None ≡ Some k → slice_split (λ b. eqb b m) l ≡ take k l ∷ slice_split (λ b. eqb b m) (drop (k + 1) l)) [
@@ -34,9 +35,9 @@ parted_more m l k h =
     ] refl h
 
 -- what follows the mark after the first part
-pub parted_cut : (m : ℕ) (l part others : List ℕ) (k : ℕ) → position (λ b. eqb b m) l ≡ Some k → part ≡ take k l → others ≡ drop k l
-    → parted m l ≡ part ∷ parted m (take (length others - 1) (drop 1 others))
-parted_cut m l part others k h w o =
+pub cut_first_part : (m : ℕ) (l part others : List ℕ) (k : ℕ) → position (λ b. eqb b m) l ≡ Some k → part ≡ take k l → others ≡ drop k l
+    → parts_of m l ≡ part ∷ parts_of m (take (length others - 1) (drop 1 others))
+cut_first_part m l part others k h w o =
     let rest : take (length others - 1) (drop 1 others) ≡ drop (k + 1) l =
     ap (λ n. take n (drop 1 others)) (sym (length-drop 1 others)) ∙ take-length (drop 1 others) ∙ ap (drop 1) o ∙ drop-drop 1 k l in
-    parted_more m l k h ∙ ap (λ w. w ∷ parted m (drop (k + 1) l)) (sym w) ∙ ap (λ r. part ∷ parted m r) (sym rest)
+    first_part m l k h ∙ ap (λ w. w ∷ parts_of m (drop (k + 1) l)) (sym w) ∙ ap (λ r. part ∷ parts_of m r) (sym rest)

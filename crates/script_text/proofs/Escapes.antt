@@ -1,11 +1,12 @@
 -- Paths, read from the front.
 use Rattle.std.proofs.Common.{◌≡◌, ℕ, ◌≤◌, ◌↔◌, List, [], ◌∷◌, ◌++◌, length, Option, Some, None, IsSome, IfSome, option_map, ap, ◌∙◌, arith, append-nil}
 use Rattle.std.proofs.lemmas.Bool.{le-leb}
-use Rattle.script_text.specs.Paths.{unescaped, if_short}
+use Rattle.script_text.specs.Paths.{path_bytes_of, if_short}
 
 -- with no text left the path is all that was written
-pub path_ends : (text left path : List ℕ) → unescaped text ≡ option_map (λ bs. path ++ bs) (unescaped left) → length left ≡ 0 → unescaped text ≡ Some path
-unfolding unescaped
+pub path_ends : (text left path : List ℕ) → path_bytes_of text ≡ option_map (λ bs. path ++ bs) (path_bytes_of left) → length left ≡ 0
+    → path_bytes_of text ≡ Some path
+unfolding path_bytes_of
 path_ends text [] path h none = h ∙ ap (λ bs. Some bs) (append-nil path)
 path_ends text (b ∷ left) path h none = absurd (omega arith)
 

@@ -1,16 +1,17 @@
 -- Numbers that are joined by plus signs are parted again.
-use Rattle.std.proofs.Common.{◌≡◌, ℕ, zero, suc, ◌^◌, ◌≤◌, ◌<◌, true, false, eqb, List, [], ◌∷◌, length, map, All, slice_index_or, Some, refl, sym, ap, ◌∙◌, arith}
+use Rattle.std.proofs.Common.{◌≡◌, ℕ, zero, suc, ◌^◌, ◌≤◌, ◌<◌, true, false, eqb, List, [], ◌∷◌, length, map, All, slice_index_or, Some, refl, sym, ap, ◌∙◌}
+use Rattle.std.proofs.Common.{arith}
 use Rattle.std.specs.Prelude.{codes}
 use Rattle.std.specs.Fmt.{decimal}
 use Rattle.std.specs.List.{list_all, AllByRecursion, join_with_byte}
 use Rattle.std.specs.Str.{bytes_eq}
 use Rattle.std.proofs.lemmas.Bool.{le-leb, ne_eqb, and_parts, false_from_ne_true}
 use Rattle.std.proofs.lemmas.List.Splits.{slice_split_none, slice_split_at}
-use Rattle.script_text.specs.Words.{is_digit, parted}
+use Rattle.script_text.specs.Words.{is_digit, parts_of}
 use Rattle.call_words.specs.Groups.{groups_word}
 use Rattle.script_text.specs.Rights.{ids_of, groups_of}
 use Rattle.script_text.specs.Grammar.{IsId}
-use Rattle.script_text.proofs.Chosen.{same_text}
+use Rattle.script_text.proofs.ChoiceLemmas.{same_text}
 use Rattle.script_text.proofs.Digits.{digit_range}
 use Rattle.script_text.proofs.NumberBack.{digits_of_number, number_back}
 
@@ -26,19 +27,19 @@ no_plus (b ∷ ds) h =
     ] within
 
 -- the parts of a text that joins them
-parted_join : (ns : List ℕ) (n : ℕ) → AllByRecursion IsId (n ∷ ns) → parted 43 (join_with_byte 43 (map decimal (n ∷ ns))) ≡ map decimal (n ∷ ns)
-unfolding parted
-parted_join [] n h = slice_split_none (λ b. eqb b 43) (decimal n) (no_plus (decimal n) (digits_of_number n (omega (arith, h.0))))
-parted_join (m ∷ ns) n h =
+parts_of_join : (ns : List ℕ) (n : ℕ) → AllByRecursion IsId (n ∷ ns) → parts_of 43 (join_with_byte 43 (map decimal (n ∷ ns))) ≡ map decimal (n ∷ ns)
+unfolding parts_of
+parts_of_join [] n h = slice_split_none (λ b. eqb b 43) (decimal n) (no_plus (decimal n) (digits_of_number n (omega (arith, h.0))))
+parts_of_join (m ∷ ns) n h =
     slice_split_at (λ b. eqb b 43) (decimal n) 43 (join_with_byte 43 (map decimal (m ∷ ns))) (no_plus (decimal n) (digits_of_number n (omega (arith, h.0))))
     refl
-    ∙ ap (λ (parts : List (List ℕ)). decimal n ∷ parts) (parted_join ns m h.1)
+    ∙ ap (λ (parts : List (List ℕ)). decimal n ∷ parts) (parts_of_join ns m h.1)
 
 -- a dash is no such text
 no_dash_joined : (ns : List ℕ) (n : ℕ) → AllByRecursion IsId (n ∷ ns) → join_with_byte 43 (map decimal (n ∷ ns)) ≡ codes "-" → ⊥
-unfolding parted
+unfolding parts_of
 no_dash_joined ns n h e =
-    let parts : codes "-" ∷ [] ≡ map decimal (n ∷ ns) = ap (parted 43) (sym e) ∙ parted_join ns n h in
+    let parts : codes "-" ∷ [] ≡ map decimal (n ∷ ns) = ap (parts_of 43) (sym e) ∙ parts_of_join ns n h in
     let dash : codes "-" ≡ decimal n = cc in
     let digits : list_all (is_digit 10) (codes "-") ≡ true = rw (← dash) at (digits_of_number n (omega (arith, h.0))) in
     absurd cc
@@ -52,7 +53,7 @@ unfolding groups_of groups_word
 groups_back [] most h = refl
 groups_back (n ∷ ns) most h =
     let text = join_with_byte 43 (map decimal (n ∷ ns)) in
-    let parts : parted 43 text ≡ map decimal (n ∷ ns) = parted_join ns n h in
+    let parts : parts_of 43 text ≡ map decimal (n ∷ ns) = parts_of_join ns n h in
     let no_dash : bytes_eq text (codes "-") ≡ false = false_from_ne_true _ (λ e. no_dash_joined ns n h (same_text text (codes "-") e)) in
     let some : eqb (length (n ∷ ns)) 0 ≡ false = ne_eqb (length (n ∷ ns)) 0 (omega arith) in
     rw (some, no_dash, parts, ids_back (n ∷ ns) h, le-leb (length (n ∷ ns)) 16 most) refl

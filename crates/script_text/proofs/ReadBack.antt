@@ -1,30 +1,52 @@
 -- The words that are printed are read as the values that they were printed of.
-use Rattle.std.proofs.Common.{◌≡◌, ℕ, zero, suc, ◌*◌, ◌/◌, ◌%◌, ◌^◌, ◌<◌, ◌≤◌, Bool, true, false, cond, eqb, ltb, List, [], ◌∷◌, ◌++◌, length, get_or, flat_map, Option, Some, None, Ok, refl, sym, ap, ◌∙◌, arith, rules}
+use Rattle.std.proofs.Common.{◌≡◌, ℕ, zero, suc, ◌*◌, ◌/◌, ◌%◌, ◌^◌, ◌<◌, ◌≤◌, Bool, true, false, cond, eqb, ltb, List, [], ◌∷◌, ◌++◌, length, take, get_or}
+use Rattle.std.proofs.Common.{flat_map, Option, Some, None, Ok, refl, sym, ap, ◌∙◌, arith, rules}
 use Rattle.std.specs.Prelude.{codes}
 use Rattle.std.specs.Char.{digit_value}
 use Rattle.std.specs.Fmt.{digits}
 use Rattle.std.specs.List.{AllByRecursion}
 use Rattle.std.specs.Result.{result_ok}
 use Rattle.std.specs.Str.{bytes_eq}
-use Rattle.std.proofs.lemmas.Bool.{le-ltb, ne_eqb, eqb-true, false_from_ne_true, agree_below_at}
+use Rattle.std.proofs.lemmas.Bool.{le-ltb, ne_eqb, eqb-true, and_parts, false_from_ne_true, agree_below_at}
 use Rattle.hex.specs.Hex.{IsBytes, lower_digits, encode_with, encode_lower, decode_of}
 use Rattle.hex.proofs.HexLemmas.{decode_of-encode_lower, length-encode_with}
 use Rattle.call_words.specs.declared.open.Access.{Access}
 use Rattle.call_words.specs.declared.open.Access.TheVariants as access
 use Rattle.call_words.specs.declared.open.OpenFlags.{OpenFlags}
+use Rattle.std.specs.Fmt.{decimal}
+use Rattle.std.specs.List.{list_all}
+use Rattle.sys_types.specs.declared.sig.Sig.{Sig}
+use Rattle.sys_types.specs.declared.sig.Sig.TheVariants as sig
+use Rattle.sys_types.specs.Signals.{sig_word}
+use Rattle.call_words.specs.declared.proc.WaitFlags.{WaitFlags}
+use Rattle.call_words.specs.declared.signal.To.{To}
+use Rattle.call_words.specs.declared.signal.To.TheVariants as to
+use Rattle.call_words.specs.declared.signal.Action.{Action}
+use Rattle.call_words.specs.declared.signal.Action.TheVariants as action
+use Rattle.call_words.specs.declared.tty.When.{When}
+use Rattle.call_words.specs.declared.tty.When.TheVariants as when
+use Rattle.call_words.specs.declared.tty.WhichQueue.{WhichQueue}
+use Rattle.call_words.specs.declared.tty.WhichQueue.TheVariants as queue
+use Rattle.termios_core.proofs.GrammarLemmas.{termios_of-termios_text}
+use Rattle.script_text.specs.Proc.{wait_flags_of, wait_flags_word}
+use Rattle.script_text.specs.Signal.{signal_of, action_of, target_of, action_word, target_word}
+use Rattle.script_text.specs.Tty.{when_of, queue_of, when_word, queue_word}
+use Rattle.script_text.proofs.Digits.{digit_range}
 use Rattle.acl_core.proofs.ListTextLemmas.{read_again}
 use Rattle.label_core.proofs.TextLemmas.{element_of-element_text, subject_of-subject_text}
 use Rattle.call_words.specs.declared.attr.WhichList.{WhichList}
 use Rattle.call_words.specs.declared.attr.WhichList.TheVariants as which
 use Rattle.script_text.specs.Rights.{which_of, which_word}
-use Rattle.script_text.specs.Words.{number_below, bytes_of_word, hex_word}
-use Rattle.script_text.specs.Paths.{is_plain, pair_value, escaped_byte, path_of, path_word}
-use Rattle.script_text.specs.Spelling.{plain, escaped, IsSpelled, by_parts}
+use Rattle.script_text.specs.Words.{is_digit, number_below, bytes_of_word, hex_word}
+use Rattle.script_text.specs.Paths.{is_plain, pair_value, byte_text, path_of, path_word}
+use Rattle.script_text.specs.Spelling.{plain, escape, IsSpelled, by_parts}
 use Rattle.script_text.specs.Values.{line_of, mode_of, access_of, flags_of, line_word, mode_word, access_word, flags_word}
-use Rattle.script_text.specs.Grammar.{Field, Fits, Says, word_of, IsByte, name, slot, line, path, access, flags, open_mode, mode, fd, max, taken, from, bytes, id, groups, which, entries, element, subject, no_line}
-use Rattle.script_text.proofs.Chosen.{same_text}
-use Rattle.script_text.proofs.Spelled.{written_is_read}
-use Rattle.script_text.proofs.NumberBack.{number_back}
+use Rattle.script_text.specs.Grammar.{Field, Fits, Says, word_of, IsByte, name, slot, line, path, access, flags, open_mode, mode, fd, max, take_max, from}
+use Rattle.script_text.specs.Grammar.{bytes, id, groups, which, entries, element, subject, FitsTarget, pid, status, wait_flags, note, signal, target, action}
+use Rattle.script_text.specs.Grammar.{when, queue, termios}
+use Rattle.script_text.proofs.ChoiceLemmas.{same_text}
+use Rattle.script_text.proofs.SpellingLemmas.{written_is_read}
+use Rattle.script_text.proofs.NumberBack.{digits_of_number, number_back}
 use Rattle.script_text.proofs.GroupsBack.{groups_back}
 
 line_back : (n : ℕ) → n < 8 → line_of (line_word n) ≡ Some n
@@ -114,7 +136,7 @@ digit_back : (k : ℕ) → k < 16 → digit_value (get_or lower_digits k 0) ≡ 
 digit_back k h = eqb-true _ k (agree_below_at (λ k. eqb (digit_value (get_or lower_digits k 0)) k) (λ k. true) 16 k refl h)
 
 -- what is printed of bytes is a spelling of them
-printed_spells : (bs : List ℕ) → AllByRecursion IsByte bs → IsSpelled (flat_map escaped_byte bs) bs
+printed_spells : (bs : List ℕ) → AllByRecursion IsByte bs → IsSpelled (flat_map byte_text bs) bs
 unfolding encode_with
 printed_spells [] h = record { parts = []; valid = tt; spelling = refl; meaning = refl }
 printed_spells (b ∷ bs) h =
@@ -125,7 +147,7 @@ printed_spells (b ∷ bs) h =
     let first : digit_value high ≡ b / 16 = digit_back (b / 16) (omega arith) in
     let second : digit_value low ≡ b % 16 = digit_back (b % 16) (omega arith) in
     let value : pair_value high low ≡ b = omega (arith, first, second) in
-    elim (is_plain b) as (λ t. is_plain b ≡ t → IsSpelled (cond t (b ∷ []) (37 ∷ encode_lower (b ∷ [])) ++ flat_map escaped_byte bs) (b ∷ bs)) [
+    elim (is_plain b) as (λ t. is_plain b ≡ t → IsSpelled (cond t (b ∷ []) (37 ∷ encode_lower (b ∷ [])) ++ flat_map byte_text bs) (b ∷ bs)) [
       | true ↦ λ e. record {
         parts = plain b ∷ rest.parts;
         valid = (e, rest.valid);
@@ -133,14 +155,14 @@ printed_spells (b ∷ bs) h =
         meaning = ap (λ t. b ∷ t) rest.meaning;
       }
       | false ↦ λ e. record {
-        parts = escaped high low ∷ rest.parts;
+        parts = escape high low ∷ rest.parts;
         valid = ((omega (arith, first), omega (arith, second), ap is_plain value ∙ e), rest.valid);
         spelling = ap (λ (t : List ℕ). 37 ∷ high ∷ low ∷ t) rest.spelling;
         meaning = ap (λ c. c ∷ bs) (sym value) ∙ ap (λ (t : List ℕ). pair_value high low ∷ t) rest.meaning;
       }
     ] refl
 
-some_printed : (b : ℕ) (bs : List ℕ) → path_word (b ∷ bs) ≡ flat_map escaped_byte (b ∷ bs)
+some_printed : (b : ℕ) (bs : List ℕ) → path_word (b ∷ bs) ≡ flat_map byte_text (b ∷ bs)
 unfolding path_word
 some_printed b bs = rw (ne_eqb (length (b ∷ bs)) 0 (omega arith)) refl
 
@@ -149,7 +171,61 @@ unfolding path_of path_word
 path_back [] most h = refl
 path_back (b ∷ bs) most h =
     ap path_of (some_printed b bs)
-    ∙ written_is_read (flat_map escaped_byte (b ∷ bs)) (b ∷ bs) (by_parts (omega arith) most (printed_spells (b ∷ bs) h))
+    ∙ written_is_read (flat_map byte_text (b ∷ bs)) (b ∷ bs) (by_parts (omega arith) most (printed_spells (b ∷ bs) h))
+
+-- each of the four sets of flags
+all_waits_back : AtBoth (λ n. AtBoth (λ u. wait_flags_of (wait_flags_word (record { no_hang = n; untraced = u }))
+    ≡ Some (record { no_hang = n; untraced = u })))
+all_waits_back = search rules
+
+wait_flags_back : (f : WaitFlags) → wait_flags_of (wait_flags_word f) ≡ Some f
+wait_flags_back f =
+    at (λ u. wait_flags_of (wait_flags_word (record { no_hang = f.no_hang; untraced = u })) ≡ Some (record { no_hang = f.no_hang; untraced = u }))
+    (at (λ n. AtBoth (λ u. wait_flags_of (wait_flags_word (record { no_hang = n; untraced = u })) ≡ Some (record { no_hang = n; untraced = u })))
+    all_waits_back f.no_hang) f.untraced
+
+signal_back : (s : Sig) → signal_of (sig_word s) ≡ Some s
+unfolding signal_of
+signal_back sig.HUP = refl
+signal_back sig.INT = refl
+signal_back sig.QUIT = refl
+signal_back sig.KILL = refl
+signal_back sig.PIPE = refl
+signal_back sig.TERM = refl
+signal_back sig.STOP = refl
+signal_back sig.TSTP = refl
+signal_back sig.CONT = refl
+signal_back sig.CHLD = refl
+signal_back sig.TTIN = refl
+signal_back sig.TTOU = refl
+signal_back sig.USR1 = refl
+signal_back sig.USR2 = refl
+
+action_back : (a : Action) → action_of (action_word a) ≡ Some a
+action_back action.Normal = refl
+action_back action.Ignore = refl
+action_back action.Catch = refl
+
+when_back : (w : When) → when_of (when_word w) ≡ Some w
+when_back when.Now = refl
+when_back when.Flush = refl
+
+queue_back : (q : WhichQueue) → queue_of (queue_word q) ≡ Some q
+queue_back queue.In = refl
+queue_back queue.Out = refl
+queue_back queue.Both = refl
+
+-- a number begins with no g
+no_group : (ds : List ℕ) → list_all (is_digit 10) ds ≡ true → bytes_eq (take 1 ds) (codes "g") ≡ false
+no_group [] h = refl
+no_group (d ∷ ds) h =
+    let range = digit_range 10 d (and_parts (is_digit 10 d) (list_all (is_digit 10) ds) h).0 in
+    false_from_ne_true _ (λ e. let same : d ∷ [] ≡ codes "g" = same_text (d ∷ []) (codes "g") e in let one : d ≡ 103 = cc in omega (arith, one, range))
+
+target_back : (t : To) → FitsTarget t → target_of (target_word t) ≡ Some t
+target_back (to.Pid n) h =
+    rw (no_group (decimal n) (digits_of_number n (omega arith)), number_back (2 ^ 32) n h (omega arith)) refl
+target_back (to.Group n) h = rw (number_back (2 ^ 32) n h (omega arith)) refl
 
 pub word_back : (f : Field) → Fits f → Says f (word_of f)
 word_back (name n) h = refl
@@ -162,7 +238,7 @@ word_back (open_mode m) h = mode_back m h
 word_back (mode m) h = mode_back m h
 word_back (fd n) h = number_back (2 ^ 8) n h (omega arith)
 word_back (max n) h = number_back (2 ^ 16) n h (omega arith)
-word_back (taken n) h = number_back 513 n (omega arith) (omega arith)
+word_back (take_max n) h = number_back 513 n (omega arith) (omega arith)
 word_back (from n) h = number_back (2 ^ 16) n h (omega arith)
 word_back (bytes bs) h = bytes_back bs h.0 h.1
 word_back (id n) h = number_back (2 ^ 32) n h (omega arith)
@@ -171,4 +247,13 @@ word_back (which l) h = which_back l
 word_back (entries es) h = ap result_ok (read_again es h)
 word_back (element e) h = ap result_ok (element_of-element_text e h)
 word_back (subject s) h = ap result_ok (subject_of-subject_text s h)
-word_back no_line h = absurd h
+word_back (pid n) h = number_back (2 ^ 32) n h (omega arith)
+word_back (status n) h = number_back (2 ^ 8) n h (omega arith)
+word_back (wait_flags f) h = wait_flags_back f
+word_back (note bs) h = bytes_back bs h.0 h.1
+word_back (signal s) h = signal_back s
+word_back (target t) h = target_back t h
+word_back (action a) h = action_back a
+word_back (when a) h = when_back a
+word_back (queue q) h = queue_back q
+word_back (termios t) h = termios_of-termios_text t h

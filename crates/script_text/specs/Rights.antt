@@ -1,6 +1,6 @@
 -- The words of users and groups, of which list of a node is meant, of access lists and of labels. The
 -- texts of a list and of a label are those of acl_core and label_core.
-use Rattle.std.specs.Prelude.{ℕ, ◌^◌, ◌==◌, List, [], ◌∷◌, length, Option, Some, None, nat_le, if◌then◌else◌, codes, option_map, option_and_then}
+use Rattle.std.specs.Prelude.{ℕ, ◌^◌, List, [], ◌∷◌, length, Option, Some, None, nat_le, if◌then◌else◌, codes, option_map, option_and_then}
 use Rattle.std.specs.Str.{bytes_eq, byte}
 use Rattle.std.specs.Result.{result_ok}
 use Rattle.label_core.specs.declared.element.Element.{Element}
@@ -11,7 +11,7 @@ use Rattle.acl_core.specs.declared.cred.TheConstants.{MOST_GROUPS}
 use Rattle.acl_core.specs.Reading.{read_of}
 use Rattle.call_words.specs.declared.attr.WhichList.{WhichList}
 use Rattle.call_words.specs.declared.attr.WhichList.TheVariants as which
-use Rattle.script_text.specs.Words.{only_if, number_below, parted}
+use Rattle.script_text.specs.Words.{only_if, number_below, parts_of}
 
 -- the number of a user or a group has 32 bits
 abbrev pub id_of : List ℕ → Option ℕ
@@ -28,7 +28,7 @@ if_few groups = option_and_then (λ ns. only_if (nat_le (length ns) MOST_GROUPS)
 
 -- a dash for no groups, or 1 to 16 numbers joined by plus signs
 unfoldable pub groups_of : List ℕ → Option (List ℕ)
-groups_of w = if bytes_eq w (codes "-") then Some [] else if_few (ids_of (parted (byte "+") w))
+groups_of w = if bytes_eq w (codes "-") then Some [] else if_few (ids_of (parts_of (byte "+") w))
 
 abbrev pub which_of : List ℕ → Option WhichList
 which_of w =

@@ -1,5 +1,6 @@
 -- The value that a word of each kind has.
-use Rattle.std.specs.Prelude.{ℕ, ◌+◌, ◌^◌, Bool, false, not, ◌&&◌, ◌||◌, ◌==◌, List, [], ◌∷◌, ◌++◌, length, take, drop, count_by, Option, Some, None, nat_lt, nat_le, if◌then◌else◌, codes}
+use Rattle.std.specs.Prelude.{ℕ, ◌+◌, ◌^◌, Bool, false, not, ◌&&◌, ◌||◌, ◌==◌, List, [], ◌∷◌, ◌++◌, length, take, drop, count_by, Option, Some, None, nat_lt}
+use Rattle.std.specs.Prelude.{nat_le, if◌then◌else◌, codes}
 use Rattle.std.specs.List.{list_all}
 use Rattle.std.specs.Fmt.{decimal, digits}
 use Rattle.std.specs.Str.{bytes_eq, byte}
@@ -22,13 +23,21 @@ line_of w = only_if (bytes_eq (take 3 w) (codes "tty")) (number_below 10 LINES (
 abbrev pub fd_of : List ℕ → Option ℕ
 fd_of w = number_below 10 (2 ^ 8) w
 
+-- the status of an exit fits a byte (_exit(2))
+abbrev pub status_of : List ℕ → Option ℕ
+status_of w = number_below 10 (2 ^ 8) w
+
+-- the number of a process, or of a group of processes, has 32 bits
+abbrev pub pid_of : List ℕ → Option ℕ
+pid_of w = number_below 10 (2 ^ 32) w
+
 -- the most that a read gives fits two bytes
 abbrev pub max_of : List ℕ → Option ℕ
 max_of w = number_below 10 (2 ^ 16) w
 
 -- the most that a taking gives is at most 512
-abbrev pub taken_of : List ℕ → Option ℕ
-taken_of w = number_below 10 (PIECE_BYTES + 1) w
+abbrev pub take_max_of : List ℕ → Option ℕ
+take_max_of w = number_below 10 (PIECE_BYTES + 1) w
 
 -- how many names a listing passes over fits two bytes
 abbrev pub from_of : List ℕ → Option ℕ

@@ -8,12 +8,12 @@ use Rattle.hex.specs.Hex.{decode_of, encode_lower}
 use Rattle.sys_types.specs.declared.limits.TheConstants.{PIECE_BYTES}
 
 -- the parts of a text round each place of a byte
-unfoldable pub parted : ℕ → List ℕ → List (List ℕ)
-parted mark text = slice_split (λ b. b == mark) text
+unfoldable pub parts_of : ℕ → List ℕ → List (List ℕ)
+parts_of mark text = slice_split (λ b. b == mark) text
 
 -- words are parted by one blank
 abbrev pub words : List ℕ → List (List ℕ)
-words line = parted (byte " ") line
+words line = parts_of (byte " ") line
 
 -- the value, where a condition holds
 abbrev pub only_if : {X : Type 0} → Bool → Option X → Option X

@@ -8,7 +8,7 @@ use std::marker::Model;
 
 /// How the events of a line are kept.
 #[derive(Drop)]
-enum Kept {
+enum Form {
     One(Event),
     /// The arrival of each of the bytes at the line.
     Arrivals(u8, Piece),
@@ -18,7 +18,7 @@ enum Kept {
 /// contracts it is the list of them.
 #[derive(Drop)]
 pub struct Events {
-    kept: Kept,
+    form: Form,
 }
 
 impl Model for Events {
@@ -28,11 +28,11 @@ impl Model for Events {
 
     ghost Value = { List Event };
 
-    ghost use Rattle.script_text.specs.Listed.{events_in};
+    ghost use Rattle.script_text.specs.EventList.{events_in};
 
-    ghost view = { λ e. events_in e.kept };
+    ghost view = { λ e. events_in e.form };
 
-    ghost invariant = { λ e. (0 < length (events_in e.kept)) × (length (events_in e.kept) ≤ PIECE_BYTES) };
+    ghost invariant = { λ e. (0 < length (events_in e.form)) × (length (events_in e.form) ≤ PIECE_BYTES) };
 }
 
 impl Events {
@@ -41,7 +41,7 @@ impl Events {
         ensures { result ≡ event ∷ [] }
     {
         Events {
-            kept: Kept::One(event),
+            form: Form::One(event),
         }
     }
 
@@ -52,7 +52,7 @@ impl Events {
     {
         let _len = bytes.len();
         Events {
-            kept: Kept::Arrivals(line, bytes),
+            form: Form::Arrivals(line, bytes),
         }
     }
 
@@ -62,9 +62,9 @@ impl Events {
         ensures some { 0 < result }
         ensures most { result ≤ PIECE_BYTES }
     {
-        match &self.kept {
-            Kept::One(_) => 1,
-            Kept::Arrivals(_, bytes) => bytes.len() as u16,
+        match &self.form {
+            Form::One(_) => 1,
+            Form::Arrivals(_, bytes) => bytes.len() as u16,
         }
     }
 
@@ -73,9 +73,9 @@ impl Events {
         requires { i < length self.now }
         ensures { slice_get self.now i ≡ Some result }
     {
-        match &self.kept {
-            Kept::One(event) => event.copy(),
-            Kept::Arrivals(line, bytes) => Event::Byte {
+        match &self.form {
+            Form::One(event) => event.copy(),
+            Form::Arrivals(line, bytes) => Event::Byte {
                 line: *line,
                 byte: bytes.as_slice()[usize::from(i)],
             },

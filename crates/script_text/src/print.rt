@@ -5,14 +5,12 @@ ghost use Rattle.arrayvec.specs.ArrayVec.{array_vec_len};
 ghost use Rattle.sys_types.specs.declared.limits.TheConstants.{PIECE_BYTES, TEXT_BYTES};
 ghost use Rattle.call_words.specs.Events.{wake_list};
 ghost use Rattle.script_text.specs.Words.{hex_word};
-ghost use Rattle.script_text.specs.Paths.{escaped_byte, text_word};
+ghost use Rattle.script_text.specs.Paths.{byte_text, text_word};
 ghost use Rattle.script_text.specs.Answers.{how_text, reply_text, decision_text, asker_text, wake_text, answer_line};
 
-use crate::paths::is_plain;
+use crate::push::{push_escapes, push_hex};
 use arrayvec::ArrayVec;
-use call_words::{
-    Decision, Event, How, PIECE_BYTES, Reply, TEXT_BYTES, Wakes, push_bytes, push_number,
-};
+use call_words::{Decision, Event, How, Reply, TEXT_BYTES, Wakes, push_bytes, push_number};
 
 /// How many bytes an answer line has at most.
 pub const ANSWER_BYTES: usize = 16_384;
@@ -26,47 +24,6 @@ const DECISION_ROOM: usize = 5 + TEXT_ROOM;
 /// An answer line, in place.
 pub type AnswerLine = ArrayVec<u8, ANSWER_BYTES>;
 
-/// The hex digits of bytes, in lower case. `room` has two places for each byte.
-fn push_pairs(out: &mut AnswerLine, bytes: &[u8], room: &mut [u8])
-    requires places { length room.old ≡ 2 * length bytes.now }
-    requires fits { array_vec_len out.old + length room.old ≤ ANSWER_BYTES }
-    ensures bytes { out.new.items ≡ out.old.items ++ encode_lower bytes.now }
-    ensures len { array_vec_len out.new ≡ array_vec_len out.old + length room.old }
-{
-    let _ = hex::encode_to_slice(bytes, room);
-    push_bytes(out, room);
-}
-
-/// The hex digits of at most 512 bytes, or a dash for none.
-#[tactic(auto, unfolding(crate::specs::Words::hex_word))]
-fn push_hex(out: &mut AnswerLine, bytes: &[u8])
-    requires most { length bytes.now ≤ PIECE_BYTES }
-    requires fits { array_vec_len out.old + 1024 ≤ ANSWER_BYTES }
-    ensures bytes { out.new.items ≡ out.old.items ++ hex_word bytes.now }
-    ensures len { array_vec_len out.new ≤ array_vec_len out.old + 1024 }
-{
-    if bytes.is_empty() {
-        push_bytes(out, b"-");
-        return;
-    }
-    let mut room = [0; 2 * PIECE_BYTES];
-    push_pairs(out, bytes, &mut room[..2 * bytes.len()]);
-}
-
-/// A byte as itself, or as a percent sign and two hex digits.
-fn push_escaped(out: &mut AnswerLine, byte: u8)
-    requires { array_vec_len out.old + 3 ≤ ANSWER_BYTES }
-    ensures bytes { out.new.items ≡ out.old.items ++ escaped_byte byte }
-    ensures len { array_vec_len out.new ≤ array_vec_len out.old + 3 }
-{
-    if is_plain(byte) {
-        push_bytes(out, &[byte]);
-        return;
-    }
-    push_bytes(out, b"%");
-    push_pairs(out, &[byte], &mut [0; 2]);
-}
-
 /// The bytes of a text of at most 4,096, or a dash for none.
 #[tactic(auto, unfolding(crate::specs::Paths::text_word))]
 fn push_text(out: &mut AnswerLine, text: &[u8])
@@ -79,9 +36,7 @@ fn push_text(out: &mut AnswerLine, text: &[u8])
         push_bytes(out, b"-");
         return;
     }
-    for byte in text {
-        push_escaped(out, *byte);
-    }
+    push_escapes(out, text);
 }
 
 /// What became of a child: its status, or the number of a signal (wait4(2)).

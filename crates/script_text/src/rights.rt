@@ -1,7 +1,7 @@
 //! The words of users and groups, and of which list of a node is meant.
 ghost use Rattle.std.specs.Prelude.{◌≡◌, option_map};
 ghost use Rattle.script_text.specs.Rights.{id_of, if_few, ids_of, groups_of, which_of};
-ghost use Rattle.script_text.specs.Words.{parted};
+ghost use Rattle.script_text.specs.Words.{parts_of};
 
 use crate::numbers::read_u32;
 use crate::words::{Words, is_word};
@@ -20,10 +20,10 @@ pub fn read_id(word: &[u8]) -> Option<u32>
 
 /// At most 16 numbers, joined by plus signs.
 fn read_ids(word: &[u8]) -> Option<ArrayVec<u32, MOST_GROUPS>>
-    ensures { option_map (λ ids. ids.items) result ≡ if_few (ids_of (parted PLUS word.now)) }
+    ensures { option_map (λ ids. ids.items) result ≡ if_few (ids_of (parts_of PLUS word.now)) }
 {
     let mut ids: ArrayVec<u32, MOST_GROUPS> = ArrayVec::new();
-    let mut numbers = Words::parted(word, PLUS);
+    let mut numbers = Words::parts_of(word, PLUS);
     while let Some(number) = numbers.next() {
         let id = read_id(number)?;
         if ids.is_full() {

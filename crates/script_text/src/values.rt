@@ -5,9 +5,10 @@ ghost use Rattle.acl_core.specs.declared.mode.TheConstants.{MODE_MOST};
 ghost use Rattle.sys_types.specs.declared.limits.TheConstants.{SLOTS, LINES};
 ghost use Rattle.sys_types.specs.declared.limits.TheConstants.{PIECE_BYTES};
 ghost use Rattle.script_text.specs.Words.{number_below};
-ghost use Rattle.script_text.specs.Values.{slot_of, line_of, fd_of, max_of, taken_of, from_of, mode_of, access_of, flag_letters, is_flag_letter, times, are_flags, flags_in, flags_of};
+ghost use Rattle.script_text.specs.Values.{slot_of, line_of, fd_of, status_of, pid_of, max_of, take_max_of, from_of, mode_of, access_of, flag_letters};
+ghost use Rattle.script_text.specs.Values.{is_flag_letter, times, are_flags, flags_in, flags_of};
 
-use crate::numbers::{DECIMAL, OCTAL, read_number};
+use crate::numbers::{DECIMAL, OCTAL, read_number, read_u32};
 use crate::words::is_word;
 use acl_core::MODE_MOST;
 use call_words::{Access, LINES, OpenFlags, PIECE_BYTES, SLOTS};
@@ -42,6 +43,21 @@ pub fn read_fd(word: &[u8]) -> Option<u8>
     Some(fd as u8)
 }
 
+/// The status of an exit.
+pub fn read_status(word: &[u8]) -> Option<u8>
+    ensures { result ≡ status_of word.now }
+{
+    let status = read_number(word, DECIMAL, 1 << 8)?;
+    Some(status as u8)
+}
+
+/// The number of a process or of a group of processes.
+pub fn read_pid(word: &[u8]) -> Option<u32>
+    ensures { result ≡ pid_of word.now }
+{
+    read_u32(word)
+}
+
 /// The most bytes that a read asks.
 pub fn read_max(word: &[u8]) -> Option<u16>
     ensures { result ≡ max_of word.now }
@@ -51,8 +67,8 @@ pub fn read_max(word: &[u8]) -> Option<u16>
 }
 
 /// The most bytes that a taking asks.
-pub fn read_taken(word: &[u8]) -> Option<u16>
-    ensures value { result ≡ taken_of word.now }
+pub fn read_take_max(word: &[u8]) -> Option<u16>
+    ensures value { result ≡ take_max_of word.now }
     ensures most { IfSome result (λ max. max ≤ PIECE_BYTES) }
 {
     let max = read_number(word, DECIMAL, PIECE_BYTES as u32 + 1)?;

@@ -1,7 +1,8 @@
 //! The words of a line, and the parts of a word.
 ghost use Rattle.std.specs.Prelude.{◌≡◌, ◌==◌, bytes_eq, ℕ, ◌+◌, ◌-◌, List, [], ◌∷◌, length, option_copied, option_map, position, MatchOption};
-ghost use Rattle.script_text.specs.Words.{words as words_of, parted};
-ghost use Rattle.script_text.specs.Left.{parts_after, only_word, both_words, three_words};
+ghost use Rattle.script_text.specs.Words.{words as words_of, parts_of};
+ghost use Rattle.script_text.specs.Args.{alone};
+ghost use Rattle.script_text.specs.Rest.{parts_after, only_word, both_words, three_words};
 
 use std::marker::Model;
 
@@ -9,17 +10,17 @@ use std::marker::Model;
 /// it is the list of them.
 #[derive(Drop)]
 pub struct Words<'a> {
-    left: Option<&'a [u8]>,
+    rest: Option<&'a [u8]>,
     mark: u8,
 }
 
 impl<'a> Model for Words<'a> {
     ghost use Rattle.std.specs.Prelude.{ℕ, List, option_copied};
-    ghost use Rattle.script_text.specs.Left.{parts_after};
+    ghost use Rattle.script_text.specs.Rest.{parts_after};
 
     ghost Value = { List (List ℕ) };
 
-    ghost view = { λ w. parts_after w.mark (option_copied w.left) };
+    ghost view = { λ w. parts_after w.mark (option_copied w.rest) };
 }
 
 /// Where the first mark is.
@@ -30,9 +31,9 @@ fn first_mark(text: &[u8], mark: u8) -> Option<usize>
 }
 
 /// The first part, and what follows the mark after it, if there is one.
-#[tactic(auto, using(crate::proofs::Cuts::parted_one))]
+#[tactic(auto, using(crate::proofs::Cuts::one_part))]
 fn cut_part(text: &[u8], mark: u8) -> (&[u8], Option<&[u8]>)
-    ensures { parted mark text.now ≡ result.0.now ∷ parts_after mark (option_copied result.1) }
+    ensures { parts_of mark text.now ≡ result.0.now ∷ parts_after mark (option_copied result.1) }
 {
     match first_mark(text, mark) {
         None => (text, None),
@@ -48,15 +49,15 @@ impl<'a> Words<'a> {
     pub fn new(line: &'a [u8]) -> Self
         ensures { result ≡ words_of line.now }
     {
-        Words::parted(line, b' ')
+        Words::parts_of(line, b' ')
     }
 
     /// All parts of a text that a byte parts.
-    pub fn parted(text: &'a [u8], mark: u8) -> Self
-        ensures { result ≡ parted mark text.now }
+    pub fn parts_of(text: &'a [u8], mark: u8) -> Self
+        ensures { result ≡ parts_of mark text.now }
     {
         Words {
-            left: Some(text),
+            rest: Some(text),
             mark,
         }
     }
@@ -65,9 +66,19 @@ impl<'a> Words<'a> {
     pub fn next(&mut self) -> Option<&'a [u8]>
         ensures { MatchOption result ((self.old ≡ []) × (self.new ≡ [])) (λ word. self.old ≡ word.now ∷ self.new) }
     {
-        let (word, left) = cut_part(self.left?, self.mark);
-        self.left = left;
+        let (word, rest) = cut_part(self.rest?, self.mark);
+        self.rest = rest;
         Some(word)
+    }
+}
+
+/// What stands where no word is left.
+pub fn alone<R: Drop>(words: &mut Words, what: R) -> Option<R>
+    ensures { result ≡ alone what words.old }
+{
+    match words.next() {
+        None => Some(what),
+        Some(_) => None,
     }
 }
 

@@ -1,4 +1,4 @@
-use Rattle.script_text.proofs.Spelled.{path_is_written, written_is_read}
+use Rattle.script_text.proofs.SpellingLemmas.{path_is_written, written_is_read}
 use Rattle.script_text.proofs.laws.paths_are_read_as_spelled.Goals as goal
 
 pub returns : goal.returns

@@ -1,4 +1,4 @@
-use Rattle.script_text.proofs.Used.{arrivals_used}
+use Rattle.script_text.proofs.MayBeUsedLemmas.{arrivals_used}
 use Rattle.script_text.proofs.read.read_in.Goals as goal
 
 pub returns-clause-valid : goal.returns-clause-valid

@@ -1,8 +1,8 @@
 use Rattle.std.proofs.Common.{sym, ◌∙◌}
-use Rattle.script_text.proofs.Cuts.{parted_cut}
+use Rattle.script_text.proofs.Cuts.{cut_first_part}
 use Rattle.script_text.proofs.words.cut_part.Goals as goal
 
 pub returns-in-Some : goal.returns-in-Some
 returns-in-Some c =
-    parted_cut c.args.mark c.args.text.now _ c.split_at.result.1.now c.in-Some.at (sym c.first_mark.ensures ∙ c.in-Some.is) c.split_at.ensures.front
+    cut_first_part c.args.mark c.args.text.now _ c.split_at.result.1.now c.in-Some.at (sym c.first_mark.ensures ∙ c.in-Some.is) c.split_at.ensures.front
     c.split_at.ensures.back
