@@ -1,5 +1,6 @@
 -- What a run writes depends on what calls see alone, and one event at a time.
-use Rattle.std.proofs.Common.{◌≡◌, ℕ, zero, suc, ◌+◌, List, [], ◌∷◌, ◌++◌, length, map, take, Option, None, Some, refl, ap, ◌∙◌, arith, append_assoc, ltb, lt-ltb, le-ltb}
+use Rattle.std.proofs.Common.{◌≡◌, ℕ, zero, suc, ◌+◌, List, [], ◌∷◌, ◌++◌, length, map, take, Option, None, Some, refl, ap, ◌∙◌, arith, append_assoc, ltb}
+use Rattle.std.proofs.Common.{lt-ltb, le-ltb}
 use Rattle.sys_types.specs.declared.limits.TheConstants.{TRAIL_EVENTS}
 use Rattle.call_words.specs.declared.event.Event.{Event}
 use Rattle.user_db.specs.declared.boot.Boot.{Boot}

@@ -10,7 +10,8 @@ use Rattle.label_core.specs.declared.fault.LabelFault.{LabelFault}
 use Rattle.label_core.specs.declared.fault.LabelKind.TheVariants as kind
 use Rattle.label_core.specs.Element.{dom}
 use Rattle.label_core.specs.CompSet.{numbers_in}
-use Rattle.label_core.specs.Reading.{after_word, number_at, compartments_within, compartments_at, grade_at, body_at, element_at, range_at, whole_element, whole_parts, whole_subject, element_of, subject_of}
+use Rattle.label_core.specs.Reading.{after_word, number_at, compartments_within, compartments_at, grade_at, body_at, element_at, range_at, whole_element}
+use Rattle.label_core.specs.Reading.{whole_parts, whole_subject, element_of, subject_of}
 use Rattle.label_core.specs.Subject.{Parts, may_relabel, may_become}
 use Rattle.label_core.specs.Text.{element_text, subject_text}
 

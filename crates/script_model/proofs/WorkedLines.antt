@@ -1,31 +1,46 @@
 -- The definitions give the events of single lines, worked out by hand: every kind of call once, and each way for a line to be bad.
 use Rattle.std.proofs.Common.{◌≡◌, ℕ, zero, suc, [], ◌∷◌, ◌++◌, List, length, refl}
-use Rattle.std.specs.Prelude.{Option, Some, None, option_map, true, map, codes}
+use Rattle.std.specs.Prelude.{Option, Some, None, option_map, Bool, true, false, map, codes}
 use Rattle.std.specs.Fmt.{digits}
 use Rattle.hex.proofs.OnLiterals.{hex_on_literals}
 use Rattle.label_core.specs.declared.element.Element.TheVariants.{Low, Equal, Grade}
 use Rattle.label_core.specs.Element.{dom}
 use Rattle.label_core.specs.CompSet.{numbers_in}
-use Rattle.label_core.specs.Reading.{after_word, number_at, compartments_within, compartments_at, grade_at, body_at, element_at, range_at, whole_element, whole_parts, whole_subject, element_of, subject_of}
+use Rattle.label_core.specs.Reading.{after_word, number_at, compartments_within, compartments_at, grade_at, body_at, element_at, range_at, whole_element}
+use Rattle.label_core.specs.Reading.{whole_parts, whole_subject, element_of, subject_of}
 use Rattle.acl_core.specs.declared.entry.Entry.{Entry}
 use Rattle.acl_core.specs.declared.entry.Tag.{Tag}
 use Rattle.acl_core.specs.declared.entry.Tag.TheVariants.{User, Other}
 use Rattle.acl_core.specs.Perm.{perm_of}
-use Rattle.acl_core.specs.Reading.{read_of, list_at, entries_at, entry_at, tag_at, qualifier_at, numbered_at, number_at as list_number_at, digits_at, perm_at, more_at}
+use Rattle.acl_core.specs.Reading.{read_of, list_at, entries_at, entry_at, tag_at, qualifier_at, numbered_at, number_at as list_number_at, digits_at, perm_at}
+use Rattle.acl_core.specs.Reading.{more_at}
 use Rattle.call_words.specs.declared.open.Access.TheVariants as access
 use Rattle.call_words.specs.declared.call.Call.TheVariants as call
 use Rattle.call_words.specs.declared.open.OpenFlags.{OpenFlags}
-use Rattle.call_words.specs.declared.event.Decision.TheVariants.{Answer, Taken}
+use Rattle.call_words.specs.declared.proc.WaitFlags.{WaitFlags}
+use Rattle.call_words.specs.declared.signal.To.TheVariants as to
+use Rattle.call_words.specs.declared.signal.Action.TheVariants as action
+use Rattle.call_words.specs.declared.tty.When.TheVariants as when
+use Rattle.call_words.specs.declared.tty.WhichQueue.TheVariants as queue
+use Rattle.sys_types.specs.declared.sig.Sig.TheVariants as sig
+use Rattle.termios_core.specs.Termios.{cooked, raw}
+use Rattle.termios_core.specs.Reading.{termios_of}
 use Rattle.call_words.specs.declared.event.Event.{Event}
 use Rattle.call_words.specs.declared.event.Event.TheVariants as event
-use Rattle.call_words.specs.declared.event.Reply.TheVariants.{Num, Text}
 use Rattle.call_words.specs.declared.attr.WhichList.TheVariants as which
-use Rattle.script_text.specs.Words.{parted, number_below, bytes_of_word, hex_word}
-use Rattle.script_text.specs.Answers.{wake_text, answer_line}
-use Rattle.script_text.specs.Paths.{unescaped, path_of, text_word}
+use Rattle.script_text.specs.Words.{parts_of, number_below, bytes_of_word}
+use Rattle.script_text.specs.Paths.{path_bytes_of, path_of}
 use Rattle.script_text.specs.Values.{flags_of, no_flags}
 use Rattle.script_text.specs.Rights.{groups_of}
-use Rattle.script_text.specs.Calls.{path_call_of, rights_call_of, caller_call_of, call_of}
+use Rattle.script_text.specs.Open.{open_call_of}
+use Rattle.script_text.specs.Io.{io_call_of}
+use Rattle.script_text.specs.Dir.{dir_call_of}
+use Rattle.script_text.specs.Attr.{attr_call_of}
+use Rattle.script_text.specs.Cred.{cred_call_of}
+use Rattle.script_text.specs.Pipe.{pipe_call_of}
+use Rattle.script_text.specs.Proc.{proc_call_of}
+use Rattle.script_text.specs.Signal.{signal_of, signal_call_of}
+use Rattle.script_text.specs.Tty.{tty_call_of}
 use Rattle.script_text.specs.Reading.{events_of_line}
 
 -- an entry with the permission of an octal digit
@@ -36,8 +51,8 @@ abbrev all_flags : OpenFlags
 all_flags = record { create = true; exclusive = true; truncate = true; append = true; nonblock = true; on_exec = true }
 
 -- lines, and the events that each asks; modes are decimal here, so 438 is the mode 666
-abbrev asked : List (List ℕ × List Event)
-asked =
+abbrev event_lines : List (List ℕ × List Event)
+event_lines =
     (codes "0 open /dev/tty7 rw", event.Call 0 (call.Open (codes "/dev/tty7") access.ReadWrite no_flags 438) ∷ []) ∷
     (codes "31 open /tmp r", event.Call 31 (call.Open (codes "/tmp") access.Read no_flags 438) ∷ []) ∷
     (codes "0 open a w -", event.Call 0 (call.Open (codes "a") access.Write no_flags 438) ∷ []) ∷
@@ -83,6 +98,7 @@ asked =
     ∷
     (codes "0 ident", event.Call 0 call.Ident ∷ []) ∷
     (codes "0 setcred 1 2 -", event.Call 0 (call.SetCred (record { uid = 1; gid = 2; groups = record { items = [] } })) ∷ []) ∷
+    (codes "0 setcred 1 2 7", event.Call 0 (call.SetCred (record { uid = 1; gid = 2; groups = record { items = 7 ∷ [] } })) ∷ []) ∷
     (codes "0 setcred 1 2 7+0+7", event.Call 0 (call.SetCred (record { uid = 1; gid = 2; groups = record { items = 7 ∷ 0 ∷ 7 ∷ [] } })) ∷ []) ∷
     (codes "0 umask 22", event.Call 0 (call.Umask 18) ∷ []) ∷
     (codes "9 revoke /dev/tty0", event.Call 9 (call.Revoke (codes "/dev/tty0")) ∷ []) ∷
@@ -92,15 +108,16 @@ asked =
     (codes "take tty3 512", event.Take 3 512 ∷ []) ∷
     []
 
-lines_are_events : map (λ row. events_of_line row.0) asked ≡ map (λ row. Some row.1) asked
+lines_are_events : map (λ row. events_of_line row.0) event_lines ≡ map (λ row. Some row.1) event_lines
 unfolding hex_on_literals read_of list_at entries_at entry_at tag_at qualifier_at numbered_at list_number_at digits_at perm_at more_at dom after_word number_at
-    compartments_within compartments_at grade_at body_at element_at range_at whole_element whole_parts whole_subject element_of subject_of numbers_in parted
-    number_below bytes_of_word unescaped path_of flags_of groups_of path_call_of rights_call_of caller_call_of call_of events_of_line
+    compartments_within compartments_at grade_at body_at element_at range_at whole_element whole_parts whole_subject element_of subject_of numbers_in parts_of
+    number_below bytes_of_word path_bytes_of path_of flags_of groups_of open_call_of io_call_of dir_call_of attr_call_of cred_call_of
+    pipe_call_of proc_call_of signal_call_of tty_call_of events_of_line
 lines_are_events = refl
 
 -- lines that are bad
-abbrev bad : List (List ℕ)
-bad =
+abbrev bad_lines : List (List ℕ)
+bad_lines =
     codes "32 open /tmp r" ∷
     codes "0 open a rw cc" ∷
     codes "0 open a rw cxc" ∷
@@ -199,26 +216,162 @@ bad =
     codes "0 jump 0" ∷
     []
 
-bad_lines_ask_nothing : map events_of_line bad ≡ map (λ _. None) bad
+bad_lines_ask_nothing : map events_of_line bad_lines ≡ map (λ _. None) bad_lines
 unfolding hex_on_literals read_of list_at entries_at entry_at tag_at qualifier_at numbered_at list_number_at digits_at perm_at more_at dom after_word number_at
-    compartments_within compartments_at grade_at body_at element_at range_at whole_element whole_parts whole_subject element_of subject_of numbers_in parted
-    number_below bytes_of_word unescaped path_of flags_of groups_of path_call_of rights_call_of caller_call_of call_of events_of_line
+    compartments_within compartments_at grade_at body_at element_at range_at whole_element whole_parts whole_subject element_of subject_of numbers_in parts_of
+    number_below bytes_of_word path_bytes_of path_of flags_of groups_of open_call_of io_call_of dir_call_of attr_call_of cred_call_of
+    pipe_call_of proc_call_of signal_call_of tty_call_of events_of_line
 bad_lines_ask_nothing = refl
+
+-- the flags of a wait
+abbrev waits : Bool → Bool → WaitFlags
+waits n u = record { no_hang = n; untraced = u }
+
+-- lines on processes, signals and terminal lines, and of devices, and the events that each asks
+abbrev more_event_lines : List (List ℕ × List Event)
+more_event_lines =
+    (codes "0 dup 3", event.Call 0 (call.Dup 3) ∷ []) ∷
+    (codes "0 dup2 255 0", event.Call 0 (call.Dup2 255 0) ∷ []) ∷
+    (codes "0 pipe", event.Call 0 call.Pipe ∷ []) ∷
+    (codes "31 begin", event.Call 31 call.Begin ∷ []) ∷
+    (codes "1 fork", event.Call 1 (call.Fork []) ∷ []) ∷
+    (codes "1 fork -", event.Call 1 (call.Fork []) ∷ []) ∷
+    (codes "1 fork 6a4B", event.Call 1 (call.Fork (codes "jK")) ∷ []) ∷
+    (codes "1 exec /bin/sh 61", event.Call 1 (call.Exec (codes "/bin/sh") (codes "a")) ∷ []) ∷
+    (codes "1 exec % -", event.Call 1 (call.Exec [] []) ∷ []) ∷
+    (codes "1 exit 255", event.Call 1 (call.Exit 255) ∷ []) ∷
+    (codes "1 wait 0", event.Call 1 (call.Wait 0 (waits false false)) ∷ []) ∷
+    (codes "1 wait 4294967295 -", event.Call 1 (call.Wait 4294967295 (waits false false)) ∷ []) ∷
+    (codes "1 wait 2 n", event.Call 1 (call.Wait 2 (waits true false)) ∷ []) ∷
+    (codes "1 wait 2 u", event.Call 1 (call.Wait 2 (waits false true)) ∷ []) ∷
+    (codes "1 wait 2 nu", event.Call 1 (call.Wait 2 (waits true true)) ∷ []) ∷
+    (codes "1 wait 2 un", event.Call 1 (call.Wait 2 (waits true true)) ∷ []) ∷
+    (codes "1 setsid", event.Call 1 call.SetSid ∷ []) ∷
+    (codes "1 setpgid 0 4294967295", event.Call 1 (call.SetPgid 0 4294967295) ∷ []) ∷
+    (codes "1 ps", event.Call 1 call.Ps ∷ []) ∷
+    (codes "0 halt", event.Call 0 call.Halt ∷ []) ∷
+    (codes "1 kill 2 TERM", event.Call 1 (call.Kill (to.Pid 2) sig.TERM) ∷ []) ∷
+    (codes "1 kill g0 USR2", event.Call 1 (call.Kill (to.Group 0) sig.USR2) ∷ []) ∷
+    (codes "1 sigset HUP default", event.Call 1 (call.SigSet sig.HUP action.Normal) ∷ []) ∷
+    (codes "1 sigset CHLD ignore", event.Call 1 (call.SigSet sig.CHLD action.Ignore) ∷ []) ∷
+    (codes "1 sigset INT catch", event.Call 1 (call.SigSet sig.INT action.Catch) ∷ []) ∷
+    (codes "1 sigtake", event.Call 1 call.SigTake ∷ []) ∷
+    (codes "1 pause", event.Call 1 call.Pause ∷ []) ∷
+    (codes "1 setctty 0", event.Call 1 (call.SetCtty 0) ∷ []) ∷
+    (codes "1 tcgetattr 255", event.Call 1 (call.TcGetAttr 255) ∷ []) ∷
+    (codes "1 tcsetattr 0 now raw", event.Call 1 (call.TcSetAttr 0 when.Now raw) ∷ []) ∷
+    (codes "1 tcsetattr 0 flush cooked", event.Call 1 (call.TcSetAttr 0 when.Flush cooked) ∷ []) ∷
+    (codes "1 tcsetattr 0 now clocal:3+28+127+21+4+255+17+19+26+1+0", event.Call 1 (call.TcSetAttr 0 when.Now raw) ∷ []) ∷
+    (codes "1 tcflush 0 in", event.Call 1 (call.TcFlush 0 queue.In) ∷ []) ∷
+    (codes "1 tcflush 0 out", event.Call 1 (call.TcFlush 0 queue.Out) ∷ []) ∷
+    (codes "1 tcflush 0 both", event.Call 1 (call.TcFlush 0 queue.Both) ∷ []) ∷
+    (codes "1 tcdrain 0", event.Call 1 (call.TcDrain 0) ∷ []) ∷
+    (codes "1 tcsetpgrp 0 7", event.Call 1 (call.TcSetPgrp 0 7) ∷ []) ∷
+    (codes "1 tcgetpgrp 0", event.Call 1 (call.TcGetPgrp 0) ∷ []) ∷
+    (codes "1 fdname 0", event.Call 1 (call.FdName 0) ∷ []) ∷
+    (codes "31 again", event.Again 31 ∷ []) ∷
+    (codes "up tty0", event.Carrier 0 true ∷ []) ∷
+    (codes "down tty7", event.Carrier 7 false ∷ []) ∷
+    (codes "end tty3", event.Ended 3 ∷ []) ∷
+    []
+
+more_lines_are_events : map (λ row. events_of_line row.0) more_event_lines ≡ map (λ row. Some row.1) more_event_lines
+unfolding digits hex_on_literals parts_of number_below bytes_of_word path_bytes_of path_of signal_of termios_of open_call_of io_call_of dir_call_of
+    attr_call_of cred_call_of pipe_call_of proc_call_of signal_call_of tty_call_of events_of_line
+more_lines_are_events = refl
+
+-- such lines that are bad
+abbrev more_bad_lines : List (List ℕ)
+more_bad_lines =
+    codes "0 dup" ∷
+    codes "0 dup 256" ∷
+    codes "0 dup2 0" ∷
+    codes "0 pipe 0" ∷
+    codes "0 begin -" ∷
+    codes "0 fork 6" ∷
+    codes "0 fork - -" ∷
+    codes "0 exec a" ∷
+    codes "0 exec a 6g" ∷
+    codes "0 exit" ∷
+    codes "0 exit 256" ∷
+    codes "0 exit 01" ∷
+    codes "0 wait" ∷
+    codes "0 wait -" ∷
+    codes "0 wait 4294967296" ∷
+    codes "0 wait g0" ∷
+    codes "0 wait 0 nn" ∷
+    codes "0 wait 0 unu" ∷
+    codes "0 wait 0 N" ∷
+    codes "0 wait 0 -n" ∷
+    codes "0 wait 0 n u" ∷
+    codes "0 setpgid 0" ∷
+    codes "0 setpgid 0 g0" ∷
+    codes "0 kill 2" ∷
+    codes "0 kill 2 term" ∷
+    codes "0 kill 2 15" ∷
+    codes "0 kill 2 SIGTERM" ∷
+    codes "0 kill G2 TERM" ∷
+    codes "0 kill g TERM" ∷
+    codes "0 kill gg2 TERM" ∷
+    codes "0 kill g02 TERM" ∷
+    codes "0 kill g4294967296 TERM" ∷
+    codes "0 kill TERM 2" ∷
+    codes "0 sigset INT normal" ∷
+    codes "0 sigset INT Catch" ∷
+    codes "0 sigset INT" ∷
+    codes "0 sigtake 0" ∷
+    codes "0 pause 0" ∷
+    codes "0 setctty" ∷
+    codes "0 tcsetattr 0 raw" ∷
+    codes "0 tcsetattr 0 later raw" ∷
+    codes "0 tcsetattr 0 now Raw" ∷
+    codes "0 tcsetattr 0 now raw:" ∷
+    codes "0 tcsetattr 0 now -:3+28+127+21+4+255+17+19+26+1" ∷
+    codes "0 tcsetattr 0 now -:3+28+127+21+4+256+17+19+26+1+0" ∷
+    codes "0 tcflush 0" ∷
+    codes "0 tcflush 0 all" ∷
+    codes "0 tcsetpgrp 0 g1" ∷
+    codes "0 fdname" ∷
+    codes "32 again" ∷
+    codes "0 again 0" ∷
+    codes "0 Again" ∷
+    codes "again" ∷
+    codes "up" ∷
+    codes "up 7" ∷
+    codes "up tty8" ∷
+    codes "up tty7 0" ∷
+    codes "down tty07" ∷
+    codes "end" ∷
+    codes "end tty" ∷
+    codes "tty7 end" ∷
+    []
+
+more_bad_lines_ask_nothing : map events_of_line more_bad_lines ≡ map (λ _. None) more_bad_lines
+unfolding digits hex_on_literals parts_of number_below bytes_of_word path_bytes_of path_of signal_of termios_of open_call_of io_call_of dir_call_of
+    attr_call_of cred_call_of pipe_call_of proc_call_of signal_call_of tty_call_of events_of_line
+more_bad_lines_ask_nothing = refl
 
 -- bytes so many times
 abbrev times : ℕ → List ℕ → List ℕ
 times zero bytes = []
 times (suc n) bytes = bytes ++ times n bytes
 
--- the longest words, and those with a byte more; how many events each line asks, if it asks some
-abbrev longest : List (List ℕ × Option ℕ)
-longest =
+-- the longest words and lines of each kind, and those with a byte more; how many events each line asks, if it asks some
+abbrev longest_lines : List (List ℕ × Option ℕ)
+longest_lines =
     (codes "0 open " ++ times 1024 (codes "a") ++ codes " r", Some 1) ∷
     (codes "0 open " ++ times 1025 (codes "a") ++ codes " r", None) ∷
-    (codes "0 open " ++ times 1024 (codes "%0a") ++ codes " r", Some 1) ∷
-    (codes "0 open " ++ times 1025 (codes "%0a") ++ codes " r", None) ∷
+    (codes "0 open " ++ times 1024 (codes "%0a") ++ codes " rw cxtane 777", Some 1) ∷
+    (codes "0 open " ++ times 1025 (codes "%0a") ++ codes " rw cxtane 777", None) ∷
     (codes "0 write 0 " ++ times 512 (codes "6a"), Some 1) ∷
     (codes "0 write 0 " ++ times 513 (codes "6a"), None) ∷
+    (codes "0 fork " ++ times 512 (codes "6a"), Some 1) ∷
+    (codes "0 fork " ++ times 513 (codes "6a"), None) ∷
+    (codes "0 exec a " ++ times 512 (codes "6a"), Some 1) ∷
+    (codes "0 exec a " ++ times 513 (codes "6a"), None) ∷
+    -- each word is good, but the second line has 4,097 bytes
+    (codes "0 exec " ++ times 1021 (codes "%0a") ++ codes "a " ++ times 512 (codes "6a"), Some 1) ∷
+    (codes "0 exec " ++ times 1021 (codes "%0a") ++ codes "aa " ++ times 512 (codes "6a"), None) ∷
     (codes "in tty7 " ++ times 512 (codes "6a"), Some 512) ∷
     (codes "in tty7 " ++ times 513 (codes "6a"), None) ∷
     (codes "0 setcred 1 2 0" ++ times 15 (codes "+0"), Some 1) ∷
@@ -229,26 +382,33 @@ longest =
     (codes "0 close " ++ times 4089 (codes "1"), None) ∷
     []
 
-longest_words : map (λ row. option_map length (events_of_line row.0)) longest ≡ map (λ row. row.1) longest
-unfolding hex_on_literals read_of list_at entries_at entry_at tag_at qualifier_at numbered_at list_number_at digits_at perm_at more_at dom after_word number_at
-    compartments_within compartments_at grade_at body_at element_at range_at whole_element whole_parts whole_subject element_of subject_of numbers_in parted
-    number_below bytes_of_word unescaped path_of flags_of groups_of path_call_of rights_call_of caller_call_of call_of events_of_line
+longest_words : map (λ row. option_map length (events_of_line row.0)) longest_lines ≡ map (λ row. row.1) longest_lines
+unfolding digits hex_on_literals read_of list_at entries_at entry_at tag_at qualifier_at numbered_at list_number_at digits_at perm_at more_at dom after_word
+    number_at compartments_within compartments_at grade_at body_at element_at range_at whole_element whole_parts whole_subject element_of subject_of
+    numbers_in parts_of
+    number_below bytes_of_word path_bytes_of path_of termios_of flags_of groups_of open_call_of io_call_of dir_call_of attr_call_of cred_call_of
+    pipe_call_of proc_call_of signal_call_of tty_call_of events_of_line
 longest_words = refl
 
--- the answers that no worked run has: with slots that go on, and with bytes that are escaped
+-- each word is good, but the second line has 4,097 bytes
+abbrev longest_settings : List (List ℕ × Option ℕ)
+longest_settings =
+    (codes "0 tcsetattr 0 now echo" ++ times 805 (codes ",echo") ++ times 3 (codes ",echok") ++ codes ":3+28+127+21+4+255+17+19+26+1+0", Some 1) ∷
+    (codes "0 tcsetattr 0 now echo" ++ times 804 (codes ",echo") ++ times 4 (codes ",echok") ++ codes ":3+28+127+21+4+255+17+19+26+1+0", None) ∷
+    []
 
-two_slots_go_on : answer_line (event.Call 31 (call.Close 0)) (Answer (Num 4294967295)) (record { slots = 0 ∷ 31 ∷ []; lines = [] })
-    ≡ codes "31 ok 4294967295 wake 0 31\n"
-unfolding digits wake_text answer_line
-two_slots_go_on = refl
+longest_settings_are_read : map (λ row. option_map length (events_of_line row.0)) longest_settings ≡ map (λ row. row.1) longest_settings
+unfolding digits parts_of number_below termios_of open_call_of io_call_of dir_call_of attr_call_of cred_call_of pipe_call_of proc_call_of signal_call_of
+    tty_call_of events_of_line
+longest_settings_are_read = refl
 
-a_slot_goes_on_after_a_byte : answer_line (event.Byte 7 0) (Taken []) (record { slots = 1 ∷ []; lines = [] })
-    ≡ codes "tty7 out - wake 1\n"
-unfolding digits hex_word wake_text answer_line
-a_slot_goes_on_after_a_byte = refl
+abbrev longest_labels : List (List ℕ × Option ℕ)
+longest_labels =
+    (codes "0 setlabel " ++ times 1024 (codes "%0a") ++ codes " mls/5:1+11" ++ times 501 (codes "+1"), Some 1) ∷
+    (codes "0 setlabel " ++ times 1024 (codes "%0a") ++ codes " mls/5:1+11+11" ++ times 500 (codes "+1"), None) ∷
+    []
 
-bytes_of_a_text_are_escaped : answer_line (event.Call 31 (call.Close 0))
-    (Answer (Text (codes "!~/a b%" ++ 127 ∷ 10 ∷ 255 ∷ []))) (record { slots = []; lines = [] })
-    ≡ codes "31 text !~/a%20b%25%7f%0a%ff\n"
-unfolding digits hex_on_literals text_word wake_text answer_line
-bytes_of_a_text_are_escaped = refl
+longest_labels_are_read : map (λ row. option_map length (events_of_line row.0)) longest_labels ≡ map (λ row. row.1) longest_labels
+unfolding after_word number_at compartments_within compartments_at grade_at body_at element_at whole_element element_of numbers_in parts_of number_below
+    path_bytes_of path_of open_call_of io_call_of dir_call_of attr_call_of events_of_line
+longest_labels_are_read = refl
