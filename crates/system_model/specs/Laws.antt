@@ -1,0 +1,197 @@
+-- Laws of a run: of each of its events, with the state before it and its position.
+use Rattle.std.specs.Prelude.{◌≡◌, ◌⊎◌, ℕ, Bool, true, false, List, [], ◌∷◌, Option, Some, None, is_some, slice_get, ◌==◌, if◌then◌else◌}
+use Rattle.std.specs.List.{list_all, list_any}
+use Rattle.sys_types.specs.declared.sig.Sig.{Sig}
+use Rattle.sys_types.specs.declared.sig.Sig.TheVariants as sig
+use Rattle.sys_types.specs.declared.rules.Rule.{Rule}
+use Rattle.sys_types.specs.declared.rules.Rule.TheVariants.{Size, FdMode, Dead}
+use Rattle.call_words.specs.declared.call.Call.{Call}
+use Rattle.call_words.specs.declared.call.Call.TheVariants as call
+use Rattle.call_words.specs.declared.event.Event.{Event}
+use Rattle.call_words.specs.declared.event.Event.TheVariants as event
+use Rattle.call_words.specs.declared.event.Decision.{Decision}
+use Rattle.call_words.specs.declared.event.How.{How}
+use Rattle.call_words.specs.declared.event.Reason.{Reason}
+use Rattle.call_words.specs.declared.event.Reply.TheVariants.{Num, Bytes, Denied}
+use Rattle.call_words.specs.declared.event.Decision.TheVariants.{Answer, Sleep}
+use Rattle.sys_types.specs.declared.node.Kind.TheVariants as kind
+use Rattle.call_words.specs.declared.open.Access.{Access}
+use Rattle.call_words.specs.declared.open.OpenFlags.{OpenFlags}
+use Rattle.call_words.specs.Calls.{can_read, can_write}
+use Rattle.tree_model.specs.Tree.{NodeRecord, found}
+use Rattle.tree_model.specs.Paths.{path_at}
+use Rattle.proc_table.specs.Processes.{Process, is_stopped, running_at, pending_at}
+use Rattle.system_model.specs.Parts.{Path}
+use Rattle.system_model.specs.State.{last_revoke, OpenFile, State, View, view}
+use Rattle.system_model.specs.ProcessEffects.{ProcessEffect, set_process, fork_process, reap_child, set_pending, tell, post, add_ending, bury, clear_ending}
+use Rattle.system_model.specs.Effects.{Effect, on_files, on_pipes, on_lines, on_tree, on_processes, halt, tag_all, change_all}
+use Rattle.system_model.specs.Rows.{Given, refused, early, asleep, answer_of, first, done}
+use Rattle.system_model.specs.LineEffects.{LineEffect, open_line, receive_byte, read_line, write_line, take_output, set_carrier, end_line, revoke_line}
+use Rattle.system_model.specs.LineEffects.{flush_line, retune_line, set_session, set_foreground}
+use Rattle.system_model.specs.Endings.{endings}
+use Rattle.system_model.specs.Looks.{caller_of, file_at, holds_of, end_of, node_at, dominates_node, node_dominates, tty_path, line_of_session}
+use Rattle.system_model.specs.OpenCalls.{own_tty}
+use Rattle.system_model.specs.IoCalls.{may_not_read, may_not_write}
+use Rattle.system_model.specs.TtyCalls.{tty_of_node}
+use Rattle.system_model.specs.Step.{row, answer_to, effects_of, step, can_go_on}
+
+-- ---- refusals
+
+-- the signals that a call in the background gets, and a write to a pipe without a reader (termios(4), write(2))
+abbrev pub is_terminal_signal : Sig → Bool
+is_terminal_signal sig.TTIN = true
+is_terminal_signal sig.TTOU = true
+is_terminal_signal sig.PIPE = true
+is_terminal_signal _ = false
+
+abbrev pub is_no_call : Option Call → Bool
+is_no_call None = true
+is_no_call (Some c) = false
+
+-- what a denied event may do: it answers the pending call of its slot, and it sends one of these signals
+abbrev pub may_still_do_to : ProcessEffect → Bool
+may_still_do_to (set_pending slot call) = is_no_call call
+may_still_do_to (post signal to) = is_terminal_signal signal
+may_still_do_to _ = false
+
+abbrev pub may_still_do : Effect → Bool
+may_still_do (on_processes e) = may_still_do_to e
+may_still_do _ = false
+
+-- Each denial carries the rule that is the first check that holds, and each sleep is that check; every other answer is the early answer
+-- of that check, or comes where no check holds. A denied event does nothing but answer the pending call and send TTIN, TTOU or PIPE, with
+-- what these end.
+pub record Refuses (s : State) (p : ℕ) (e : Event) : Type 0 where
+  pub denied : (rule : Rule) → (step s p e).1 ≡ Answer (Denied rule) → first (row (view s) e).checks ≡ Some (refused rule, done (row (view s) e))
+  pub denies : (rule : Rule) (es : List Effect) → first (row (view s) e).checks ≡ Some (refused rule, es) → (step s p e).1 ≡ Answer (Denied rule)
+  pub slept : (reason : Reason) → (step s p e).1 ≡ Sleep reason → first (row (view s) e).checks ≡ Some (asleep reason, done (row (view s) e))
+  pub sleeps : (reason : Reason) (es : List Effect) → first (row (view s) e).checks ≡ Some (asleep reason, es) → (step s p e).1 ≡ Sleep reason
+  pub early : (given : Given) (es : List Effect) → first (row (view s) e).checks ≡ Some (early given, es) → (step s p e).1 ≡ answer_of given
+  pub answered : first (row (view s) e).checks ≡ None → (step s p e).1 ≡ answer_of (row (view s) e).answer
+  pub quiet : (rule : Rule) → (step s p e).1 ≡ Answer (Denied rule) → list_all may_still_do (done (row (view s) e)) ≡ true
+
+-- ---- revokes
+
+-- the number through which a call reads, writes or drains
+abbrev pub fd_of : Call → Option ℕ
+fd_of (call.Read fd max) = Some fd
+fd_of (call.Write fd bytes) = Some fd
+fd_of (call.TcDrain fd) = Some fd
+fd_of _ = None
+
+-- What such a call is answered through a dead file (revoke(2)): a read gets no bytes, a write and a drain are denied as dead; only that it asks
+-- too many bytes, or that the file is not open for this, comes first.
+abbrev pub IsDeadAnswer : Call → Decision → Type 0
+IsDeadAnswer (call.Read fd max) d = (d ≡ Answer (Bytes [])) ⊎ (d ≡ Answer (Denied Size)) ⊎ (d ≡ Answer (Denied FdMode))
+IsDeadAnswer (call.Write fd bytes) d = (d ≡ Answer (Denied Dead)) ⊎ (d ≡ Answer (Denied FdMode))
+IsDeadAnswer (call.TcDrain fd) d = d ≡ Answer (Denied Dead)
+IsDeadAnswer _ d = Unit {0}
+
+-- the number is that of a dead file
+abbrev pub is_dead_at : View → ℕ → Option ℕ → Bool
+is_dead_at v slot None = false
+is_dead_at v slot (Some fd) = holds_of (λ f. f.dead) (file_at v slot fd)
+
+-- the call that a slot asks in an event: that of the event, or its pending one
+abbrev pub asks_call : View → Event → ℕ → Call → Type 0
+asks_call v (event.Call slot c) other asked = (slot ≡ other) × (c ≡ asked) × (is_some (pending_at v.processes slot) ≡ false)
+asks_call v (event.Again slot) other asked = (slot ≡ other) × (pending_at v.processes slot ≡ Some asked)
+asks_call v _ other asked = ⊥
+
+-- the slot has a running process that is not stopped, in a system that is not halted
+pub record CanRun (v : View) (slot : ℕ) : Type 0 where
+  pub who : Process Path
+  pub runs : running_at v.processes slot ≡ Some who
+  pub awake : is_stopped who ≡ false
+  pub up : v.halted ≡ false
+
+-- Through a file of a line that was revoked after its open no byte moves: whatever has come since, a call through it is answered as a dead file
+-- answers, and does nothing else than take the pending call away. A slot whose pending call is such a one can go on.
+pub record Revokes (s : State) (p : ℕ) (e : Event) : Type 0 where
+  pub answers : (slot : ℕ) (c : Call) → asks_call (view s) e slot c → CanRun (view s) slot → is_dead_at (view s) slot (fd_of c) ≡ true
+      → IsDeadAnswer c (step s p e).1
+  pub moves_nothing : (slot : ℕ) (c : Call) → asks_call (view s) e slot c → CanRun (view s) slot → is_dead_at (view s) slot (fd_of c) ≡ true
+      → list_all may_still_do (done (row (view s) e)) ≡ true
+  pub wakes : (slot : ℕ) (c : Call) → pending_at (view s).processes slot ≡ Some c → CanRun (view s) slot → is_dead_at (view s) slot (fd_of c) ≡ true
+      → can_go_on (view s) slot ≡ true
+
+-- ---- labels (mac_mls(4))
+
+-- the caller's label dominates what it reads, and is dominated by what it writes: of a pipe always, of a file and a line where labels are
+-- looked at again
+abbrev pub MayRead : View → ℕ → OpenFile → Type 0
+MayRead v slot f = (f.file.readable ≡ true) × (may_not_read v (caller_of v slot) f.file.target ≡ false)
+
+abbrev pub MayWrite : View → ℕ → OpenFile → Type 0
+MayWrite v slot f = (f.file.writable ≡ true) × (may_not_write v (caller_of v slot) f.file.target ≡ false)
+
+-- A read through a file that is not dead answers bytes only where the caller may read it, and a write a count only where it may write it.
+pub record ObeysLabels (s : State) (p : ℕ) (e : Event) : Type 0 where
+  pub reads : (slot fd max : ℕ) (f : OpenFile) (bs : List ℕ) → asks_call (view s) e slot (call.Read fd max) → (step s p e).1 ≡ Answer (Bytes bs)
+      → file_at (view s) slot fd ≡ Some f → f.dead ≡ false → MayRead (view s) slot f
+  pub writes : (slot fd n : ℕ) (bs : List ℕ) (f : OpenFile) → asks_call (view s) e slot (call.Write fd bs) → (step s p e).1 ≡ Answer (Num n)
+      → file_at (view s) slot fd ≡ Some f → f.dead ≡ false → MayWrite (view s) slot f
+
+-- the caller's label allows this access to the node at a place
+pub record MayOpen (v : View) (slot : ℕ) (access : Access) (place : Path) : Type 0 where
+  pub reads : can_read access ≡ true → dominates_node (caller_of v slot) (node_at v place) ≡ true
+  pub writes : can_write access ≡ true → node_dominates (caller_of v slot) (node_at v place) ≡ true
+
+-- A node that is there is opened only for what the caller's label allows at the open, and the caller's own line only where its own node allows it too.
+pub record OpensByLabels (s : State) (p : ℕ) (e : Event) : Type 0 where
+  pub opens : (slot : ℕ) (path : List ℕ) (access : Access) (flags : OpenFlags) (mode n : ℕ) (place : Path)
+      → asks_call (view s) e slot (call.Open path access flags mode) → (step s p e).1 ≡ Answer (Num n)
+      → end_of (view s) slot path ≡ found place → MayOpen (view s) slot access place
+  pub opens_own : (slot : ℕ) (path : List ℕ) (access : Access) (flags : OpenFlags) (mode n line : ℕ) (place : Path) (what : NodeRecord)
+      → asks_call (view s) e slot (call.Open path access flags mode) → (step s p e).1 ≡ Answer (Num n)
+      → end_of (view s) slot path ≡ found place → node_at (view s) place ≡ Some what → what.kind ≡ kind.Tty → own_tty (view s) slot ≡ Some line
+      → MayOpen (view s) slot access (tty_path line)
+
+-- ---- which events revoke a line
+
+-- the effect revokes the line
+abbrev pub line_revokes : ℕ → LineEffect → Bool
+line_revokes n (open_line m t) = false
+line_revokes n (receive_byte m b) = false
+line_revokes n (read_line m max) = false
+line_revokes n (write_line m bytes) = false
+line_revokes n (take_output m max) = false
+line_revokes n (set_carrier m up) = false
+line_revokes n (end_line m) = false
+line_revokes n (revoke_line m) = m == n
+line_revokes n (flush_line m input output) = false
+line_revokes n (retune_line m t) = false
+line_revokes n (set_session m session group) = false
+line_revokes n (set_foreground m group) = false
+
+abbrev pub is_revoke_of : ℕ → Effect → Bool
+is_revoke_of n (on_files e) = false
+is_revoke_of n (on_pipes e) = false
+is_revoke_of n (on_lines e) = line_revokes n e
+is_revoke_of n (on_tree e) = false
+is_revoke_of n (on_processes e) = false
+is_revoke_of n halt = false
+
+-- one of the effects of an event revokes the line
+abbrev pub revokes_line : View → Event → ℕ → Bool
+revokes_line v e n = list_any (is_revoke_of n) (effects_of v e)
+
+-- what calls see where the event's own effects are through, and where so many of its endings are
+abbrev pub before_ending : View → Event → ℕ → View
+before_ending v e place = let own = change_all v (done (row v e)) in change_all own (endings place 0 own)
+
+-- An event revokes a line by a call of revoke(2) that is answered 0 and whose path leads to the line's node, or by the end of a process that leads the
+-- line's session.
+pub data IsRevokedBy (v : View) (e : Event) (n : ℕ) : Type 0 where
+  by_call : (slot : ℕ) (path : List ℕ) → asks_call v e slot (call.Revoke path) → answer_to v e ≡ Answer (Num 0)
+      → tty_of_node (node_at v (path_at (end_of v slot path))) ≡ Some n → IsRevokedBy v e n
+  by_end : (place slot : ℕ) (why : How) → slice_get (before_ending v e place).ending place ≡ Some (slot, why)
+      → ((caller_of (before_ending v e place) slot).pid == (caller_of (before_ending v e place) slot).session) ≡ true
+      → line_of_session (before_ending v e place) (caller_of (before_ending v e place) slot).session ≡ Some n → IsRevokedBy v e n
+
+-- The position that a state keeps of a line's last revoke is that of the last event that revoked it.
+pub record MarksRevokes (s : State) (p : ℕ) (e : Event) : Type 0 where
+  pub marks : (n : ℕ) → last_revoke (step s p e).0.revokes n ≡ (if revokes_line (view s) e n then p else last_revoke s.revokes n)
+  pub only : (n : ℕ) → revokes_line (view s) e n ≡ true → IsRevokedBy (view s) e n
+  pub calls : (slot n : ℕ) (path : List ℕ) → asks_call (view s) e slot (call.Revoke path) → (step s p e).1 ≡ Answer (Num 0)
+      → tty_of_node (node_at (view s) (path_at (end_of (view s) slot path))) ≡ Some n → revokes_line (view s) e n ≡ true
