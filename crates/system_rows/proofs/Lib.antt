@@ -1,0 +1,16 @@
+mod Computing
+mod CallScenes
+mod DirectoryScenes
+mod FileScenes
+mod FirstScenes
+mod ListingScenes
+mod OpenScenes
+mod PathScenes
+mod PipeScenes
+mod ProcScenes
+mod RawLineScenes
+mod RightScenes
+mod SignalScenes
+mod BootScenes
+mod TtyScenes
+mod ScriptScenes
