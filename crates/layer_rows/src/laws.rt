@@ -33,6 +33,18 @@ fn laws_of_lists_are_called() {
 }
 
 #[test]
+fn laws_of_lines_are_called() {
+    line_disc::laws::keeps_blocks();
+    line_disc::laws::other_disciplines();
+    line_disc::laws::fit_counts();
+    line_disc::laws::limits();
+    tty_dev::laws::dead_files();
+    tty_dev::laws::live_files();
+    tty_dev::laws::counts();
+    tty_dev::laws::limits();
+}
+
+#[test]
 fn laws_of_texts_are_called() {
     one_grammar();
     paths_are_read_as_spelled();
