@@ -5,6 +5,7 @@ mod RisingLemmas
 pub mod MapLemmas
 mod PidLemmas
 mod PidOrderLemmas
+mod ChildLemmas
 mod Scenes
 mod SignalRows
 mod ForkRows

@@ -1,8 +1,10 @@
 //! Laws of the table, which the check proves. Each is the contract of a function that does nothing.
 ghost use Rattle.std.specs.Prelude.{◌≡◌, ℕ, ◌+◌, ◌<◌, ◌≤◌, Bool, List, Option};
 ghost use Rattle.sys_types.specs.declared.sig.Sig.{Sig};
+ghost use Rattle.sys_types.specs.declared.sig.Sig.TheVariants.{CHLD};
 ghost use Rattle.call_words.specs.declared.event.How.{How};
 ghost use Rattle.call_words.specs.declared.signal.To.{To};
+ghost use Rattle.call_words.specs.declared.signal.To.TheVariants.{Pid};
 ghost use Rattle.proc_table.specs.Processes as spec;
 ghost use Rattle.proc_table.specs.Forks as forks;
 ghost use Rattle.proc_table.specs.Posts as posts;
@@ -29,4 +31,10 @@ pub fn only_a_fork_brings_a_process()
 /// no others.
 pub fn processes_come_in_rising_order()
     ensures { (test : spec.Process ℕ → Bool) (t : spec.Processes ℕ) → HasPidsOnce t → AreInOrder test t (spec.slots_by_pid test t) }
+{}
+
+/// A child that stops or ends posts CHLD to its parent, as `post` posts it.
+pub fn a_child_posts_chld_to_its_parent()
+    ensures { (t : spec.Processes ℕ) (parent : ℕ) (ending : List (ℕ × How)) → HasPidsOnce t
+        → posts.post t CHLD (Pid parent) ending ≡ posts.table_and_list (posts.post_child t parent) ending }
 {}
