@@ -182,11 +182,14 @@ bad_lines =
     codes "0 setacl a access user:7" ∷
     codes "0 setacl a -" ∷
     codes "0 getacl a" ∷
+    codes "0 getacl a both" ∷
     codes "0 setlabel a 10" ∷
     codes "0 setproclabel mls/10(high-low)" ∷
     codes "0 ident 0" ∷
     codes "0 setcred 1 2 7+" ∷
     codes "0 setcred 1 2 7+07" ∷
+    codes "0 setcred 1 2 -+7" ∷
+    codes "0 setcred 1 2 4294967296" ∷
     codes "0 setcred 1 2 " ∷
     codes "0 setcred 1 2" ∷
     codes "0 umask 1000" ∷
@@ -297,6 +300,8 @@ more_bad_lines =
     codes "0 exit 01" ∷
     codes "0 wait" ∷
     codes "0 wait -" ∷
+    codes "0 wait 00" ∷
+    codes "0 wait +1" ∷
     codes "0 wait 4294967296" ∷
     codes "0 wait g0" ∷
     codes "0 wait 0 nn" ∷
@@ -331,7 +336,10 @@ more_bad_lines =
     codes "0 tcflush 0" ∷
     codes "0 tcflush 0 all" ∷
     codes "0 tcsetpgrp 0 g1" ∷
+    codes "0 tcsetpgrp 0 4294967296" ∷
     codes "0 fdname" ∷
+    codes "0 fdname tty7" ∷
+    codes "0 revoke" ∷
     codes "32 again" ∷
     codes "0 again 0" ∷
     codes "0 Again" ∷
