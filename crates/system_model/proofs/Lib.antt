@@ -13,3 +13,4 @@ pub mod Fuel
 pub mod Revoking
 pub mod NoRevokes
 pub mod RevokeMarks
+pub mod Waiting

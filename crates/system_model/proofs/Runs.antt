@@ -191,7 +191,7 @@ none-earlier : (count : ℕ) → AreEarlier 1 (replicate count None)
 none-earlier zero = tt
 none-earlier (suc count) = (tt, none-earlier count)
 
-no-endings : (v : View) → v.ending ≡ [] → endings_of v ≡ []
+pub no-endings : (v : View) → v.ending ≡ [] → endings_of v ≡ []
 no-endings v is = rw is refl
 
 -- what calls see after an event is what the event makes of what they saw

@@ -33,7 +33,7 @@ use Rattle.system_model.specs.Looks.{caller_of, file_at, holds_of, end_of, node_
 use Rattle.system_model.specs.OpenCalls.{own_tty}
 use Rattle.system_model.specs.IoCalls.{may_not_read, may_not_write}
 use Rattle.system_model.specs.TtyCalls.{tty_of_node}
-use Rattle.system_model.specs.Step.{row, answer_to, effects_of, step, can_go_on}
+use Rattle.system_model.specs.Step.{row, answer_to, effects_of, step, view_after, waits, is_idle, can_go_on}
 
 -- ---- refusals
 
@@ -195,3 +195,15 @@ pub record MarksRevokes (s : State) (p : ℕ) (e : Event) : Type 0 where
   pub only : (n : ℕ) → revokes_line (view s) e n ≡ true → IsRevokedBy (view s) e n
   pub calls : (slot n : ℕ) (path : List ℕ) → asks_call (view s) e slot (call.Revoke path) → (step s p e).1 ≡ Answer (Num 0)
       → tty_of_node (node_at (view s) (path_at (end_of (view s) slot path))) ≡ Some n → revokes_line (view s) e n ≡ true
+
+-- ---- who waits
+
+-- Where another try of a slot's pending call would be idle, it sleeps for the reason that the slot waits for, and changes nothing.
+pub record IsIdleTry (v : View) (slot : ℕ) : Type 0 where
+  pub reason : Reason
+  pub waits : waits v slot ≡ Some reason
+  pub sleeps : answer_to v (event.Again slot) ≡ Sleep reason
+  pub unchanged : view_after v (event.Again slot) ≡ v
+
+pub record Waits (v : View) : Type 0 where
+  pub idle : (slot : ℕ) → is_some (pending_at v.processes slot) ≡ true → is_idle v slot ≡ true → IsIdleTry v slot
