@@ -240,6 +240,7 @@ kill_groups : wrong [] (
     ∷ codes "5 setcred 9 0 - -> 5 ok 0"
     ∷ codes "5 kill g2 USR1 -> 5 err EPERM sig-owner"
     ∷ codes "5 setproclabel mls/20(low-high) -> 5 ok 0"
+    ∷ codes "5 kill g2 USR1 -> 5 err EPERM sig-owner"
     ∷ codes "1 setproclabel mls/15(low-high) -> 1 ok 0"
     ∷ codes "5 kill g2 USR1 -> 5 err EACCES label-write"
     ∷ []) ≡ []

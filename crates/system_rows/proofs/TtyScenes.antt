@@ -631,3 +631,27 @@ recheck_of_lines : wrong (codes "recheck on\n") (
     ∷ []) ≡ []
 unfolding scenes_compute
 recheck_of_lines = refl
+
+-- a file and a pipe that are open keep no line open, and another line keeps neither
+other_open_files : wrong [] (
+    codes "0 open /tmp/f rw c -> 0 ok 0"
+    ∷ codes "0 pipe -> 0 pair 1 2"
+    ∷ codes "0 open /dev/tty6 rw n -> 0 ok 3"
+    ∷ codes "0 open /dev/tty7 rw -> 0 ok 4"
+    ∷ codes "in tty7 61 -> tty7 noted"
+    ∷ codes "0 write 4 6f6c64 -> 0 ok 3"
+    ∷ codes "0 close 4 -> 0 ok 0"
+    ∷ codes "take tty7 9 -> tty7 out -"
+    ∷ codes "0 open /dev/tty7 rw n -> 0 ok 4"
+    ∷ codes "take tty7 9 -> tty7 out -"
+    ∷ codes "0 read 4 9 -> 0 err EAGAIN not-ready"
+    ∷ codes "0 write 4 6e -> 0 ok 1"
+    ∷ codes "0 revoke /dev/tty6 -> 0 ok 0"
+    ∷ codes "0 write 0 62 -> 0 ok 1"
+    ∷ codes "0 write 2 63 -> 0 ok 1"
+    ∷ codes "0 read 1 9 -> 0 bytes 63"
+    ∷ codes "take tty7 9 -> tty7 out 6e"
+    ∷ codes "0 write 3 64 -> 0 err EIO dead"
+    ∷ []) ≡ []
+unfolding scenes_compute
+other_open_files = refl
