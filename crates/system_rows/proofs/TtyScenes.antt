@@ -655,3 +655,29 @@ other_open_files : wrong [] (
     ∷ []) ≡ []
 unfolding scenes_compute
 other_open_files = refl
+
+-- a read and a change from the background stop the whole group, and no other
+background_group : wrong [] (
+    codes "up tty0 -> tty0 noted"
+    ∷ codes "0 open /dev/tty0 rw -> 0 ok 0"
+    ∷ codes "0 fork -> 0 ok 2"
+    ∷ codes "1 setsid -> 1 ok 2"
+    ∷ codes "1 setctty 0 -> 1 ok 0"
+    ∷ codes "1 fork -> 1 ok 3"
+    ∷ codes "2 setpgid 0 0 -> 2 ok 0"
+    ∷ codes "2 fork -> 2 ok 4"
+    ∷ codes "2 fork -> 2 ok 5"
+    ∷ codes "4 setpgid 0 0 -> 4 ok 0"
+    ∷ codes "2 read 0 9 -> 2 sleep stop"
+    ∷ codes "3 sigtake -> 3 sleep stop"
+    ∷ codes "4 sigtake -> 4 ok 0"
+    ∷ codes "1 wait 3 u -> 1 child 3 stop 21"
+    ∷ codes "1 kill g3 CONT -> 1 ok 0 wake 2 3"
+    ∷ codes "3 again -> 3 ok 0 wake 2"
+    ∷ codes "3 tcflush 0 in -> 3 sleep stop"
+    ∷ codes "1 wait 3 u -> 1 child 3 stop 22"
+    ∷ codes "1 sigtake -> 1 ok 0"
+    ∷ codes "4 sigtake -> 4 ok 0"
+    ∷ []) ≡ []
+unfolding scenes_compute
+background_group = refl
