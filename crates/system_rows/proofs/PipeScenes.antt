@@ -294,3 +294,24 @@ another_pipe : wrong [] (
     ∷ []) ≡ []
 unfolding scenes_compute
 another_pipe = refl
+
+-- dup2 closes an open number first, and what it was of goes with its last reference
+dup2_closes : wrong [] (
+    codes "0 pipe -> 0 pair 0 1"
+    ∷ codes "0 open /tmp/f rw c -> 0 ok 2"
+    ∷ codes "0 dup2 2 1 -> 0 ok 1"
+    ∷ codes "0 read 0 9 -> 0 bytes -"
+    ∷ codes "0 open /dev/tty7 rw n -> 0 ok 3"
+    ∷ codes "in tty7 61 -> tty7 noted"
+    ∷ codes "0 write 3 6f6c64 -> 0 ok 3"
+    ∷ codes "0 dup2 2 3 -> 0 ok 3"
+    ∷ codes "take tty7 9 -> tty7 out -"
+    ∷ codes "0 open /dev/tty7 rw n -> 0 ok 4"
+    ∷ codes "0 read 4 9 -> 0 err EAGAIN not-ready"
+    ∷ codes "take tty7 9 -> tty7 out -"
+    ∷ codes "0 write 1 62 -> 0 ok 1"
+    ∷ codes "0 write 3 63 -> 0 ok 1"
+    ∷ codes "0 info /tmp/f -> 0 text file:0:0:644:2"
+    ∷ []) ≡ []
+unfolding scenes_compute
+dup2_closes = refl
