@@ -1,35 +1,13 @@
 -- The rules that deny access to a node, as the tree has it at its path.
-use Rattle.std.proofs.Common.{◌≡◌, ℕ, Bool, true, false, List, Option, Some, None, option_map, refl, sym, ap, ◌∙◌}
-use Rattle.sys_types.specs.declared.rules.Rule.{Rule}
-use Rattle.access_rule.specs.Access.{refusal, allowed_unless}
+use Rattle.std.proofs.Common.{◌≡◌, ℕ, true, false, List, Option, Some, None, option_map, refl, sym, ap, ◌∙◌}
 use Rattle.tree_model.specs.Paths.{access_rule}
-use Rattle.access_rule.specs.declared.Attrs.{Attrs}
 use Rattle.sys_types.specs.declared.node.Kind.TheVariants as kind
 use Rattle.tree_model.specs.Tree.{NodeRecord, at_path, nodes_from, is_dir, is_dir_record}
 use Rattle.machine_model.specs.PathCalls.{is_device, is_device_kind}
 use Rattle.machine_model.specs.Rows.{denied_by}
-use Rattle.vnode_tree.specs.Nodes.{NodeAt, record_of, path_of}
+use Rattle.vnode_tree.specs.Nodes.{NodeAt, path_of}
 use Rattle.file_calls.specs.declared.caller.Caller.{Caller}
-use Rattle.file_calls.specs.Makes.{what_is, rule_of}
-
--- the rule that denies access is that of what access depends on
-pub access_is : (nodes : List (Option NodeAt)) (caller : Caller) (n : ℕ) (attrs : Attrs) (read write exec : Bool)
-    → option_map (λ (r : NodeRecord). r.attrs) (record_of nodes n) ≡ Some attrs → record_of nodes n ≡ what_is nodes n
-    → access_rule caller.cred caller.label (what_is nodes n) read write exec ≡ refusal caller.cred caller.label attrs read write exec
-access_is nodes caller n attrs read write exec is there =
-    elim (what_is nodes n) as
-    (λ o. option_map (λ (r : NodeRecord). r.attrs) o ≡ Some attrs
-    → access_rule caller.cred caller.label o read write exec ≡ refusal caller.cred caller.label attrs read write exec) [
-      | None ↦ λ e. absurd (let no : None ≡ Some attrs = e in cc)
-      | Some r ↦
-          λ e. let same : r.attrs ≡ attrs = let both : Some r.attrs ≡ Some attrs = e in
-          cc in ap (λ (a : Attrs). refusal caller.cred caller.label a read write exec) same
-    ] (ap (option_map (λ (r : NodeRecord). r.attrs)) (sym there) ∙ is)
-
--- an answer tells the rule that it is made from
-pub rule_told : (o : Option Rule) → rule_of (allowed_unless o) ≡ o
-rule_told None = refl
-rule_told (Some ruled) = refl
+use Rattle.file_calls.specs.Makes.{what_is}
 
 -- a regular file is no directory and no device
 pub is_plain : (o p : Option NodeRecord) → option_map (λ (r : NodeRecord). r.kind) o ≡ Some kind.File → o ≡ p

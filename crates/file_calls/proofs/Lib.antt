@@ -9,5 +9,4 @@ pub mod Reading
 pub mod NodeRows
 pub mod Removing
 pub mod Rows
-pub mod Ways
 pub mod Writing

@@ -20,9 +20,10 @@ use Rattle.machine_model.specs.Places.{node_at, path_line, end_of}
 use Rattle.machine_model.specs.Rows.{Row, Does, number, refused, first, answered, behind, line}
 use Rattle.machine_model.specs.FileCalls.{flags_clash, is_plain_file, no_contents, open_at, open_row, opened_for, truncated, tty_of, lowest_free}
 use Rattle.vnode_tree.specs.Nodes.{NodeAt, IsLive, is_file_record, node_at as node_by_number, path_in, path_of, record_of, with_contents, with_node, with_record}
+use Rattle.vnode_tree.specs.NewNodes.{node_with_path}
 use Rattle.file_calls.specs.declared.caller.Caller.{Caller}
 use Rattle.file_calls.specs.declared.descriptors.OpenFile.{OpenFile}
-use Rattle.file_calls.specs.Makes.{made_node, denied_make, named_as, what_is}
+use Rattle.file_calls.specs.Makes.{made_node, denied_make, what_is}
 use Rattle.file_calls.specs.OpenFiles as free
 use Rattle.file_calls.specs.Opens.{new_file, cut, fd_room}
 use Rattle.file_calls.specs.Views.{seen_file, seen_files, view_of, AreOpen, kind_for, kind_of}
@@ -98,14 +99,14 @@ pub record MadeAt (nodes : List (Option NodeAt)) (node : ℕ) (path : List (List
   pub kind_is : kind_of nodes node ≡ Some kind
 
 pub made_at : (old : List (Option NodeAt)) (caller : Caller) (dir node : ℕ) (path : List (List ℕ)) (kind : Kind) (mode : ℕ)
-    → IsLive (with_node old node (named_as path (made_node old caller dir kind mode))) node
-    → MadeAt (with_node old node (named_as path (made_node old caller dir kind mode))) node path kind
+    → IsLive (with_node old node (node_with_path path (made_node old caller dir kind mode))) node
+    → MadeAt (with_node old node (node_with_path path (made_node old caller dir kind mode))) node path kind
 made_at old caller dir node path kind mode live =
-    let put = named_as path (made_node old caller dir kind mode) in
+    let put = node_with_path path (made_node old caller dir kind mode) in
     let new = with_node old node put in
     let here = made_here old node put live in
     elim (what_is old dir) as
-    (λ o. node_by_number new node ≡ named_as path (new_in_dir caller.cred caller.label caller.umask o kind mode) → MadeAt new node path kind) [
+    (λ o. node_by_number new node ≡ node_with_path path (new_in_dir caller.cred caller.label caller.umask o kind mode) → MadeAt new node path kind) [
       | None ↦ λ is. absurd (let no : false ≡ true = sym (ap (λ (x : Option NodeAt). is_some x) is) ∙ live in cc)
       | Some d ↦ λ is. record {
         place = ap path_in is;

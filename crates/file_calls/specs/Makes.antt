@@ -1,5 +1,5 @@
 -- A node that a caller makes, and the rule that denies it, as calls see the tree.
-use Rattle.std.specs.Prelude.{ℕ, ◌==◌, List, length, Option, Some, None, Result, Ok, Err, option_map}
+use Rattle.std.specs.Prelude.{ℕ, ◌==◌, List, length, Option}
 use Rattle.sys_types.specs.declared.limits.TheConstants.{NODES}
 use Rattle.sys_types.specs.declared.node.Kind.{Kind}
 use Rattle.sys_types.specs.declared.rules.Rule.{Rule}
@@ -7,15 +7,6 @@ use Rattle.tree_model.specs.Tree.{NodeRecord, at_path, nodes_from}
 use Rattle.tree_model.specs.NewNodes.{new_in_dir, make_rule_in}
 use Rattle.vnode_tree.specs.Nodes.{NodeAt, path_of}
 use Rattle.file_calls.specs.declared.caller.Caller.{Caller}
-
--- the rule that an answer is denied by, if it is
-abbrev pub rule_of : {A : Type 0} → Result A Rule → Option Rule
-rule_of (Ok answer) = None
-rule_of (Err denied) = Some denied
-
--- a node at a path
-abbrev pub named_as : List (List ℕ) → Option NodeRecord → Option NodeAt
-named_as path node = option_map (λ n. record { path = path; node = n }) node
 
 -- what is at the path of a node
 abbrev pub what_is : List (Option NodeAt) → ℕ → Option NodeRecord

@@ -12,10 +12,9 @@ ghost use Rattle.file_calls.specs.Views.{IsHome, AreOpen, view_of};
 use crate::Caller;
 use crate::access::{check, label_writes};
 use crate::make::make_node;
-use crate::place::{Place, find, find_node};
 use arrayvec::ArrayVec;
 use call_words::{Decision, Kind, Node, PathText, Rule, TextBuf};
-use vnode_tree::Tree;
+use vnode_tree::{Place, Tree};
 
 /// chdir(2): the working directory is the one that a path leads to. Answers 0.
 ///
@@ -26,7 +25,7 @@ pub fn do_chdir(tree: &Tree, caller: &mut Caller, path: &PathText) -> Decision
     ensures home { IsHome tree.now caller.new }
     ensures does { (files : List (Option OpenFile)) (line : Queues) (recheck : Bool) → Does (view_of tree.now files caller.old line recheck) (view_of tree.now files caller.new line recheck) result (chdir_row (view_of tree.now files caller.old line recheck) path.now) }
 {
-    let node = match find_node(tree, caller, path) {
+    let node = match tree.find_node(&caller.cred, &caller.label, caller.directory, path) {
         Ok(node) => node,
         Err(rule) => return Decision::denied(rule),
     };
@@ -59,7 +58,7 @@ pub fn do_list(tree: &Tree, caller: &Caller, path: &PathText, from: u16) -> Deci
     requires { IsHome tree.now caller.now }
     ensures { (files : List (Option OpenFile)) (line : Queues) (recheck : Bool) → Does (view_of tree.now files caller.now line recheck) (view_of tree.now files caller.now line recheck) result (list_row (view_of tree.now files caller.now line recheck) path.now from) }
 {
-    let node = match find_node(tree, caller, path) {
+    let node = match tree.find_node(&caller.cred, &caller.label, caller.directory, path) {
         Ok(node) => node,
         Err(rule) => return Decision::denied(rule),
     };
@@ -84,7 +83,7 @@ pub fn do_mkdir(tree: &mut Tree, caller: &Caller, path: &PathText, mode: u16) ->
     ensures open_files { (files : List (Option OpenFile)) → AreOpen tree.old files → AreOpen tree.new files }
     ensures does { (files : List (Option OpenFile)) (line : Queues) (recheck : Bool) → AreOpen tree.old files → Does (view_of tree.old files caller.now line recheck) (view_of tree.new files caller.now line recheck) result (mkdir_row (view_of tree.old files caller.now line recheck) path.now mode) }
 {
-    let place = match find(tree, caller, path) {
+    let place = match tree.find(&caller.cred, &caller.label, caller.directory, path) {
         Ok(place) => place,
         Err(rule) => return Decision::denied(rule),
     };
@@ -109,7 +108,7 @@ pub fn do_rmdir(tree: &mut Tree, caller: &Caller, path: &PathText) -> Decision
     ensures open_files { (files : List (Option OpenFile)) → AreOpen tree.old files → AreOpen tree.new files }
     ensures does { (files : List (Option OpenFile)) (line : Queues) (recheck : Bool) → AreOpen tree.old files → Does (view_of tree.old files caller.now line recheck) (view_of tree.new files caller.now line recheck) result (rmdir_row (view_of tree.old files caller.now line recheck) path.now) }
 {
-    let node = match find_node(tree, caller, path) {
+    let node = match tree.find_node(&caller.cred, &caller.label, caller.directory, path) {
         Ok(node) => node,
         Err(rule) => return Decision::denied(rule),
     };

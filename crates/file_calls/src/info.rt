@@ -12,7 +12,6 @@ ghost use Rattle.file_calls.specs.Views.{IsHome, view_of};
 use crate::Caller;
 use crate::access::label_reads;
 use crate::parts::push_part;
-use crate::place::find_node;
 use arrayvec::ArrayVec;
 use call_words::{Decision, Kind, Node, PathText, Rule, TextBuf, push_bytes};
 use vnode_tree::Tree;
@@ -85,7 +84,7 @@ pub fn do_info(tree: &Tree, caller: &Caller, path: &PathText) -> Decision
     requires { IsHome tree.now caller.now }
     ensures { (files : List (Option OpenFile)) (line : Queues) (recheck : Bool) → Does (view_of tree.now files caller.now line recheck) (view_of tree.now files caller.now line recheck) result (info_row (view_of tree.now files caller.now line recheck) path.now) }
 {
-    let node = match find_node(tree, caller, path) {
+    let node = match tree.find_node(&caller.cred, &caller.label, caller.directory, path) {
         Ok(node) => node,
         Err(rule) => return Decision::denied(rule),
     };

@@ -10,8 +10,6 @@ ghost use Rattle.file_calls.specs.Views.{IsHome, AreOpen, view_of};
 
 use crate::Caller;
 use crate::access::{label_reads, owns};
-use crate::changes::set_element;
-use crate::place::find_node;
 use arrayvec::ArrayVec;
 use call_words::{Decision, Node, PathText, Rule, TextBuf};
 use label_core::{Element, may_relabel, print_element};
@@ -36,7 +34,7 @@ pub fn do_setlabel(tree: &mut Tree, caller: &Caller, path: &PathText, element: &
     ensures open_files { (files : List (Option OpenFile)) → AreOpen tree.old files → AreOpen tree.new files }
     ensures does { (files : List (Option OpenFile)) (line : Queues) (recheck : Bool) → Does (view_of tree.old files caller.now line recheck) (view_of tree.new files caller.now line recheck) result (setlabel_row (view_of tree.old files caller.now line recheck) path.now element.now) }
 {
-    let node = match find_node(tree, caller, path) {
+    let node = match tree.find_node(&caller.cred, &caller.label, caller.directory, path) {
         Ok(node) => node,
         Err(rule) => return Decision::denied(rule),
     };
@@ -46,7 +44,7 @@ pub fn do_setlabel(tree: &mut Tree, caller: &Caller, path: &PathText, element: &
     if !relabels(tree, caller, node, element) {
         return Decision::denied(Rule::Relabel);
     }
-    set_element(tree, node, element);
+    tree.set_element(node, element);
     Decision::nothing()
 }
 
@@ -70,7 +68,7 @@ pub fn do_getlabel(tree: &Tree, caller: &Caller, path: &PathText) -> Decision
     requires { IsHome tree.now caller.now }
     ensures { (files : List (Option OpenFile)) (line : Queues) (recheck : Bool) → Does (view_of tree.now files caller.now line recheck) (view_of tree.now files caller.now line recheck) result (getlabel_row (view_of tree.now files caller.now line recheck) path.now) }
 {
-    let node = match find_node(tree, caller, path) {
+    let node = match tree.find_node(&caller.cred, &caller.label, caller.directory, path) {
         Ok(node) => node,
         Err(rule) => return Decision::denied(rule),
     };

@@ -8,7 +8,6 @@
 
 mod access;
 mod caller;
-mod changes;
 mod descriptors;
 mod directories;
 mod ident;
@@ -20,7 +19,6 @@ mod modes;
 mod moves;
 mod opens;
 mod parts;
-mod place;
 mod process;
 mod revoke;
 mod unlink;
@@ -32,11 +30,9 @@ pub use ident::do_ident;
 pub use info::do_info;
 pub use labels::{do_getlabel, do_setlabel};
 pub use lists::{do_getacl, do_setacl};
-pub use make::make_node;
 pub use modes::{do_chmod, do_chown};
 pub use moves::{do_read, do_write, readable_file, writable_file};
 pub use opens::{do_close, do_open};
-pub use place::{Place, find, find_node};
 pub use process::{do_setcred, do_setproclabel, do_umask};
 pub use revoke::may_revoke;
 pub use unlink::do_unlink;

@@ -12,8 +12,6 @@ ghost use Rattle.file_calls.specs.Views.{IsHome, AreOpen, view_of};
 
 use crate::Caller;
 use crate::access::{label_reads, label_writes, owns};
-use crate::changes::set_list;
-use crate::place::find_node;
 use acl_core::{Acl, AclFault, Entry, print_list};
 use arrayvec::ArrayVec;
 use call_words::{Decision, Entries, Node, PathText, Rule, TextBuf, WhichList};
@@ -61,7 +59,7 @@ pub fn do_setacl(
     ensures open_files { (files : List (Option OpenFile)) → AreOpen tree.old files → AreOpen tree.new files }
     ensures does { (files : List (Option OpenFile)) (line : Queues) (recheck : Bool) → Does (view_of tree.old files caller.now line recheck) (view_of tree.new files caller.now line recheck) result (setacl_row (view_of tree.old files caller.now line recheck) path.now which entries.now) }
 {
-    let node = match find_node(tree, caller, path) {
+    let node = match tree.find_node(&caller.cred, &caller.label, caller.directory, path) {
         Ok(node) => node,
         Err(rule) => return Decision::denied(rule),
     };
@@ -78,7 +76,7 @@ pub fn do_setacl(
     if is_bad(which, entries.as_slice(), &made) {
         return Decision::denied(Rule::AclBad);
     }
-    set_list(tree, node, which, made);
+    tree.set_list(node, which, made);
     Decision::nothing()
 }
 
@@ -109,7 +107,7 @@ pub fn do_getacl(tree: &Tree, caller: &Caller, path: &PathText, which: WhichList
     requires { IsHome tree.now caller.now }
     ensures { (files : List (Option OpenFile)) (line : Queues) (recheck : Bool) → Does (view_of tree.now files caller.now line recheck) (view_of tree.now files caller.now line recheck) result (getacl_row (view_of tree.now files caller.now line recheck) path.now which) }
 {
-    let node = match find_node(tree, caller, path) {
+    let node = match tree.find_node(&caller.cred, &caller.label, caller.directory, path) {
         Ok(node) => node,
         Err(rule) => return Decision::denied(rule),
     };

@@ -8,8 +8,6 @@ ghost use Rattle.file_calls.specs.Views.{IsHome, AreOpen, view_of};
 
 use crate::Caller;
 use crate::access::{is_superuser, label_writes, owns};
-use crate::changes::{set_mode, set_owner};
-use crate::place::find_node;
 use call_words::{Decision, PathText, Rule};
 use vnode_tree::Tree;
 
@@ -24,7 +22,7 @@ pub fn do_chmod(tree: &mut Tree, caller: &Caller, path: &PathText, mode: u16) ->
     ensures open_files { (files : List (Option OpenFile)) → AreOpen tree.old files → AreOpen tree.new files }
     ensures does { (files : List (Option OpenFile)) (line : Queues) (recheck : Bool) → Does (view_of tree.old files caller.now line recheck) (view_of tree.new files caller.now line recheck) result (chmod_row (view_of tree.old files caller.now line recheck) path.now mode) }
 {
-    let node = match find_node(tree, caller, path) {
+    let node = match tree.find_node(&caller.cred, &caller.label, caller.directory, path) {
         Ok(node) => node,
         Err(rule) => return Decision::denied(rule),
     };
@@ -34,7 +32,7 @@ pub fn do_chmod(tree: &mut Tree, caller: &Caller, path: &PathText, mode: u16) ->
     if !owns(tree, caller, node) {
         return Decision::denied(Rule::Owner);
     }
-    set_mode(tree, node, mode);
+    tree.set_mode(node, mode);
     Decision::nothing()
 }
 
@@ -48,7 +46,7 @@ pub fn do_chown(tree: &mut Tree, caller: &Caller, path: &PathText, uid: u32, gid
     ensures open_files { (files : List (Option OpenFile)) → AreOpen tree.old files → AreOpen tree.new files }
     ensures does { (files : List (Option OpenFile)) (line : Queues) (recheck : Bool) → Does (view_of tree.old files caller.now line recheck) (view_of tree.new files caller.now line recheck) result (chown_row (view_of tree.old files caller.now line recheck) path.now uid gid) }
 {
-    let node = match find_node(tree, caller, path) {
+    let node = match tree.find_node(&caller.cred, &caller.label, caller.directory, path) {
         Ok(node) => node,
         Err(rule) => return Decision::denied(rule),
     };
@@ -58,6 +56,6 @@ pub fn do_chown(tree: &mut Tree, caller: &Caller, path: &PathText, uid: u32, gid
     if !is_superuser(caller) {
         return Decision::denied(Rule::Super);
     }
-    set_owner(tree, node, uid, gid);
+    tree.set_owner(node, uid, gid);
     Decision::nothing()
 }

@@ -1,5 +1,6 @@
 //! Descriptors are opened and closed: open(2), close(2).
 ghost use Rattle.std.specs.Prelude.{◌≡◌, ◌≤◌, ◌∷◌, [], ℕ, Bool, ◌&&◌, if◌then◌else◌, List, Option, None, Some, option_map, IfOk};
+ghost use Rattle.std.specs.Result.{result_err};
 ghost use Rattle.tree_model.specs.Tree.{found, absent, nodes_from, with_node_at};
 ghost use Rattle.machine_model.specs.View.{Queues};
 ghost use Rattle.machine_model.specs.Rows.{Does, first, denied_by};
@@ -9,17 +10,16 @@ ghost use Rattle.vnode_tree.specs.Nodes.{NodeAt, IsLive, path_of};
 ghost use Rattle.vnode_tree.specs.Walks.{IsFree};
 ghost use Rattle.file_calls.specs.declared.caller.Caller.{Caller};
 ghost use Rattle.file_calls.specs.declared.descriptors.OpenFile.{OpenFile};
-ghost use Rattle.file_calls.specs.Makes.{rule_of, what_is};
+ghost use Rattle.file_calls.specs.Makes.{what_is};
 ghost use Rattle.file_calls.specs.OpenFiles.{tty_of};
 ghost use Rattle.file_calls.specs.Opens.{new_file, cut, fd_room};
 ghost use Rattle.file_calls.specs.Views.{view_of, IsHome, AreOpen, kind_for, kind_of};
 
 use crate::access::check;
 use crate::make::make_node;
-use crate::place::{Place, find};
 use crate::{Caller, Descriptors, OpenFile};
 use call_words::{Access, Decision, Kind, Node, OpenFlags, PathText, RAW_LINE, Rule};
-use vnode_tree::{Name255, Tree};
+use vnode_tree::{Name255, Place, Tree};
 
 /// Whether the flags of an open do not go together: to truncate or to append without write access, or to want an absent
 /// file without creating it.
@@ -65,7 +65,7 @@ fn may_open(tree: &Tree, caller: &Caller, node: Node, opening: Opening) -> Resul
     ensures line { IfOk result (λ tty. machine.tty_of (what_is tree.now node) ≡ tty) }
     ensures denied { (files : List (Option OpenFile)) (line : Queues) (recheck : Bool) (mode : ℕ) →
         let v = view_of tree.now files caller.now line recheck in
-        first (open_at v opening.access opening.flags mode (found (path_of tree.now node))).lines ≡ first (denied_by (rule_of result) ∷ fd_room v ∷ []) }
+        first (open_at v opening.access opening.flags mode (found (path_of tree.now node))).lines ≡ first (denied_by (result_err result) ∷ fd_room v ∷ []) }
 {
     if opening.flags.create && opening.flags.exclusive {
         return Err(Rule::Exists);
@@ -199,7 +199,7 @@ pub fn do_open(
     if flags_clash(access, flags) {
         return Decision::denied(Rule::Flags);
     }
-    let place = match find(tree, caller, path) {
+    let place = match tree.find(&caller.cred, &caller.label, caller.directory, path) {
         Ok(place) => place,
         Err(rule) => return Decision::denied(rule),
     };

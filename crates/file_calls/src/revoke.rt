@@ -8,7 +8,6 @@ ghost use Rattle.file_calls.specs.Views.{IsHome, view_of};
 
 use crate::Caller;
 use crate::access::{label_writes, owns};
-use crate::place::find_node;
 use call_words::{Kind, PathText, Rule};
 use vnode_tree::Tree;
 
@@ -21,7 +20,7 @@ pub fn may_revoke(tree: &Tree, caller: &Caller, path: &PathText) -> Result<(), R
     requires { IsHome tree.now caller.now }
     ensures { (files : List (Option OpenFile)) (line : Queues) (recheck : Bool) → MatchResult result (λ _. first (revoke_row (view_of tree.now files caller.now line recheck) path.now).lines ≡ None) (λ rule. first (revoke_row (view_of tree.now files caller.now line recheck) path.now).lines ≡ Some (refused rule)) }
 {
-    let node = find_node(tree, caller, path)?;
+    let node = tree.find_node(&caller.cred, &caller.label, caller.directory, path)?;
     let Kind::Line(_) = tree.kind(node) else {
         return Err(Rule::NoRevoke);
     };

@@ -6,7 +6,6 @@ ghost use Rattle.machine_model.specs.PathCalls.{unlink_row};
 ghost use Rattle.file_calls.specs.Views.{IsHome, AreOpen, view_of};
 
 use crate::access::{check, label_writes};
-use crate::place::find_node;
 use crate::{Caller, Descriptors};
 use call_words::{Decision, Kind, PathText, Rule};
 use vnode_tree::Tree;
@@ -24,7 +23,7 @@ pub fn do_unlink(tree: &mut Tree, files: &Descriptors, caller: &Caller, path: &P
     ensures open_files { AreOpen tree.new files.now }
     ensures does { (line : Queues) (recheck : Bool) → Does (view_of tree.old files.now caller.now line recheck) (view_of tree.new files.now caller.now line recheck) result (unlink_row (view_of tree.old files.now caller.now line recheck) path.now) }
 {
-    let node = match find_node(tree, caller, path) {
+    let node = match tree.find_node(&caller.cred, &caller.label, caller.directory, path) {
         Ok(node) => node,
         Err(rule) => return Decision::denied(rule),
     };

@@ -1,18 +1,18 @@
 -- The rows of the calls on the mode, the owner, the lists and the label of a node: chmod(2), chown(2), acl_set_file(3),
 -- acl_get_file(3), mac_set_file(3), mac_get_file(3).
 use Rattle.std.specs.Prelude.{ℕ, Bool, true, false, not, ◌&&◌, ◌==◌, List, [], ◌∷◌, length, Option, Some, None, option_map}
-use Rattle.std.specs.Result.{is_err, result_ok, result_unwrap_or}
+use Rattle.std.specs.Result.{is_err}
 use Rattle.label_core.specs.declared.element.Element.{Element}
 use Rattle.label_core.specs.Subject.{may_relabel}
 use Rattle.label_core.specs.Text.{element_text}
 use Rattle.acl_core.specs.declared.entry.Entry.{Entry}
 use Rattle.acl_core.specs.Acl.{acl_of}
-use Rattle.acl_core.specs.Mode.{with_mode}
 use Rattle.acl_core.specs.Text.{list_text}
 use Rattle.call_words.specs.declared.attr.WhichList.{WhichList}
 use Rattle.call_words.specs.declared.attr.WhichList.TheVariants.{Access, Default}
 use Rattle.sys_types.specs.declared.rules.Rule.TheVariants.{LabelRead, LabelWrite, Owner, Super, NotDir, AclBad, Relabel}
 use Rattle.access_rule.specs.Access.{is_superuser}
+use Rattle.tree_model.specs.Attributes.{with_bits, with_owner, with_element, with_entries}
 use Rattle.tree_model.specs.Tree.{NodeRecord, is_dir_record}
 use Rattle.machine_model.specs.View.{View}
 use Rattle.machine_model.specs.Effects.{at}
@@ -22,22 +22,6 @@ use Rattle.machine_model.specs.Places.{on_node, node_at, dominates_node, node_do
 -- the node at a place, with a change of what it is
 abbrev pub changed_at : View → List (List ℕ) → (NodeRecord → NodeRecord) → Option NodeRecord
 changed_at v place change = option_map change (node_at v place)
-
-abbrev pub with_list : List Entry → NodeRecord → NodeRecord
-with_list list node = record node { attrs = record (node.attrs) { list = list } }
-
--- the list with the bits of a mode
-abbrev pub with_bits : ℕ → NodeRecord → NodeRecord
-with_bits mode node = with_list (with_mode node.attrs.list mode) node
-
-abbrev pub with_owner : ℕ → ℕ → NodeRecord → NodeRecord
-with_owner uid gid node = record node { attrs = record (node.attrs) { owner = uid; group = gid } }
-
-abbrev pub with_element : Element → NodeRecord → NodeRecord
-with_element element node = record node { attrs = record (node.attrs) { element = element } }
-
-abbrev pub with_default : Option (List Entry) → NodeRecord → NodeRecord
-with_default list node = record node { default = list }
 
 abbrev pub chmod_at : View → ℕ → List (List ℕ) → Row
 chmod_at v mode place = record {
@@ -75,11 +59,6 @@ lacks_list v place which = is_default which && not (is_dir_record (node_at v pla
 -- without entries the default list goes; all else must make a list
 abbrev pub is_bad_list : WhichList → List Entry → Bool
 is_bad_list which entries = not (is_default which && (length entries == 0)) && is_err (acl_of entries)
-
--- the node with the list that entries make, or without a default list where they make none
-abbrev pub with_entries : WhichList → List Entry → NodeRecord → NodeRecord
-with_entries Access entries node = with_list (result_unwrap_or (acl_of entries) node.attrs.list) node
-with_entries Default entries node = with_default (result_ok (acl_of entries)) node
 
 abbrev pub setacl_at : View → WhichList → List Entry → List (List ℕ) → Row
 setacl_at v which entries place = record {

@@ -1,10 +1,9 @@
 -- What paths lead to, as the process that asks sees it.
-use Rattle.std.specs.Prelude.{ℕ, Bool, true, false, not, ◌&&◌, ◌==◌, List, [], ◌∷◌, length, Option, Some, None}
-use Rattle.label_core.specs.Element.{dom}
+use Rattle.std.specs.Prelude.{ℕ, Bool, ◌==◌, List, [], ◌∷◌, length, Option}
 use Rattle.sys_types.specs.declared.limits.TheConstants.{NODES}
 use Rattle.sys_types.specs.declared.node.Kind.{Kind}
-use Rattle.access_rule.specs.Access.{is_superuser}
 use Rattle.tree_model.specs.Tree.{NodeRecord, WalkEnd, walk, at_path}
+use Rattle.tree_model.specs.Rights as rights
 use Rattle.tree_model.specs.Paths.{path_rule, node_rule, path_at, access_rule}
 use Rattle.tree_model.specs.NewNodes.{make_rule_in, new_in_dir}
 use Rattle.machine_model.specs.View.{View}
@@ -36,12 +35,10 @@ access_line v place read write exec = denied_by (access_rule v.caller.cred v.cal
 
 -- the caller's label lets it read, or write, what is there
 abbrev pub dominates_node : View → Option NodeRecord → Bool
-dominates_node v None = true
-dominates_node v (Some node) = dom v.caller.label.active node.attrs.element
+dominates_node v node = rights.dominates_node v.caller.label node
 
 abbrev pub node_dominates : View → Option NodeRecord → Bool
-node_dominates v None = true
-node_dominates v (Some node) = dom node.attrs.element v.caller.label.active
+node_dominates v node = rights.node_dominates v.caller.label node
 
 -- the first rule by which the caller makes no node in a directory, and the node that it makes
 abbrev pub make_line : View → List (List ℕ) → Option Outcome
@@ -52,5 +49,4 @@ made_by v dir kind mode = new_in_dir v.caller.cred v.caller.label v.caller.umask
 
 -- the caller neither owns the node nor is the superuser
 abbrev pub is_not_owner : View → Option NodeRecord → Bool
-is_not_owner v None = false
-is_not_owner v (Some node) = not (v.caller.cred.uid == node.attrs.owner) && not (is_superuser v.caller.cred)
+is_not_owner v node = rights.is_not_owner v.caller.cred node

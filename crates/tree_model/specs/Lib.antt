@@ -1,6 +1,9 @@
+pub mod Attributes
 pub mod Contents
 pub mod Listing
 pub mod NewNodes
+pub mod Numbers
 pub mod Paths
+pub mod Rights
 pub mod Standard
 pub mod Tree

@@ -22,3 +22,5 @@ pub mod NamesBelow
 pub mod NamesLaws
 pub mod Finite
 pub mod OwnPathLemmas
+pub mod AccessRules
+pub mod Ways

@@ -1,11 +1,11 @@
 -- The walk of a node's own path finds the node.
-use Rattle.std.proofs.Common.{◌≡◌, ◌≢◌, inl, inr, ℕ, zero, suc, ◌+◌, ◌<◌, ◌≤◌, Bool, true, false, not, ◌&&◌, List, [], ◌∷◌, ◌++◌, length, get_or, Option, Some, None, refl, sym, ap, ◌∙◌, arith, subst, ne_eqb, le-ltb}
-use Rattle.std.specs.Prelude.{IsSome, All, is_some, filter, ◌==◌}
+use Rattle.std.proofs.Common.{◌≡◌, inl, inr, ℕ, zero, suc, ◌≤◌, Bool, true, false, not, ◌&&◌, List, [], ◌∷◌, ◌++◌, length, Option, Some, None, refl, sym, ap, ◌∙◌, arith, subst, ne_eqb}
+use Rattle.std.specs.Prelude.{All, is_some, filter}
 use Rattle.std.specs.List.{slice_split, list_all}
 use Rattle.std.specs.Str.{byte}
 use Rattle.std.proofs.lemmas.List.{append-nil}
 use Rattle.std.proofs.lemmas.List.Splits.{slice_split_none, slice_split_at}
-use Rattle.tree_model.specs.Tree.{NodeRecord, Tree, WalkEnd, found, is_dir, is_dir_record, is_slash, is_skipped, is_parent, steps, walk_from, walk}
+use Rattle.tree_model.specs.Tree.{Tree, found, is_dir_record, is_slash, is_skipped, is_parent, steps, walk_from, walk}
 use Rattle.tree_model.specs.Listing.{join_names}
 use Rattle.vnode_tree.specs.declared.entry.Entry.{Entry}
 use Rattle.vnode_tree.specs.Nodes.{NodeAt, IsLive, path_in, path_of, tree_of, is_name}
@@ -18,7 +18,6 @@ use Rattle.vnode_tree.proofs.Trees.{at_its_path}
 use Rattle.vnode_tree.proofs.Tables.{paths_apart}
 use Rattle.vnode_tree.proofs.Looks.{live_entry}
 use Rattle.vnode_tree.proofs.Calls.{some_entry}
-use Rattle.vnode_tree.proofs.Cuts.{filter_one}
 use Rattle.vnode_tree.proofs.WalkSteps.{walk_done, walk_down, walk_whole}
 
 -- ---- the steps of a path's text are its names

@@ -1,5 +1,5 @@
 -- What a table of nodes keeps.
-use Rattle.std.specs.Prelude.{◌≡◌, ℕ, true, ◌<◌, ◌≤◌, ◌≢◌, List, [], length, Option, Some, None, IsSome, sum_by}
+use Rattle.std.specs.Prelude.{◌≡◌, ℕ, true, ◌≤◌, ◌≢◌, List, [], length, Option, Some, None, IsSome, sum_by}
 use Rattle.tree_model.specs.Tree.{is_dir}
 use Rattle.sys_types.specs.declared.node.Kind.TheVariants as kind
 use Rattle.sys_types.specs.declared.limits.TheConstants.{NODES, FILE_SPACE, NAME_BYTES}

@@ -6,3 +6,5 @@ pub mod Walks
 pub mod Standard
 pub mod Names
 pub mod Children
+pub mod NewNodes
+pub mod Resolve

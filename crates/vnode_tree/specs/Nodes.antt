@@ -1,41 +1,14 @@
 -- What contracts see of a tree: its nodes by their names of one number, each with its path and with what it is. The finite
 -- map from paths to nodes is read off it.
-use Rattle.std.specs.Prelude.{◌≡◌, ◌≢◌, ℕ, Bool, true, false, ◌&&◌, List, [], ◌∷◌, ◌++◌, Option, Some, None, IsSome, is_some, count_by, slice_index_or, slice_set, not, if◌then◌else◌, option_map}
+use Rattle.std.specs.Prelude.{◌≡◌, ◌≢◌, ℕ, Bool, true, false, ◌&&◌, List, [], ◌∷◌, ◌++◌, Option, Some, None, is_some, count_by, slice_set, not, if◌then◌else◌, option_map}
 use Rattle.std.specs.List.{list_all}
 use Rattle.std.specs.Str.{bytes_eq}
-use Rattle.acl_core.specs.declared.entry.Entry.{Entry}
 use Rattle.access_rule.specs.declared.Attrs.{Attrs}
-use Rattle.tree_model.specs.Tree.{NodeRecord, Tree, is_file, is_skipped, is_parent, is_slash}
+use Rattle.tree_model.specs.Tree.{NodeRecord, Tree, is_skipped, is_parent, is_slash}
 pub use Rattle.tree_model.specs.Tree.{NodeAt, new_node}
+pub use Rattle.tree_model.specs.Attributes.{with_default}
 pub use Rattle.tree_model.specs.Contents.{with_contents}
-
--- what there is of a node of a number, if there is such a node
-abbrev pub node_at : List (Option NodeAt) → ℕ → Option NodeAt
-node_at nodes number = slice_index_or nodes number None
-
--- there is a node of the number
-abbrev pub IsLive : List (Option NodeAt) → ℕ → Type 0
-IsLive nodes number = IsSome (node_at nodes number)
-
-abbrev pub path_in : Option NodeAt → List (List ℕ)
-path_in None = []
-path_in (Some node) = node.path
-
--- the path of a node
-abbrev pub path_of : List (Option NodeAt) → ℕ → List (List ℕ)
-path_of nodes number = path_in (node_at nodes number)
-
--- what a node is
-abbrev pub record_of : List (Option NodeAt) → ℕ → Option NodeRecord
-record_of nodes number = option_map (λ node. node.node) (node_at nodes number)
-
-abbrev pub is_file_record : Option NodeRecord → Bool
-is_file_record None = false
-is_file_record (Some node) = is_file node.kind
-
--- there is a file of the number
-abbrev pub IsFile : List (Option NodeAt) → ℕ → Type 0
-IsFile nodes number = is_file_record (record_of nodes number) ≡ true
+pub use Rattle.tree_model.specs.Numbers.{node_at, IsLive, path_in, path_of, record_of, is_file_record, IsFile}
 
 abbrev pub same_path : List (List ℕ) → List (List ℕ) → Bool
 same_path [] [] = true
@@ -63,9 +36,6 @@ with_record change nodes number = with_node nodes number (option_map (with_chang
 
 abbrev pub with_attrs : Attrs → NodeRecord → NodeRecord
 with_attrs attrs node = record node { attrs = attrs }
-
-abbrev pub with_default : Option (List Entry) → NodeRecord → NodeRecord
-with_default list node = record node { default = list }
 
 -- a name that a node may have: no dots alone, and no slash
 abbrev pub is_name : List ℕ → Bool

@@ -1,13 +1,19 @@
-//! The file tree in memory: nodes with their attributes and contents, and the walk of a path.
+//! The file tree in memory: nodes with their attributes and contents, what a path leads to, and what a credential and a label
+//! allow at a node.
 //!
-//! Walks are those of path_resolution in POSIX.1, 4.13; the nodes that a boot makes are this project's own. The table of
-//! nodes is made at boot, with room for all of them: after that only a write to a file can want memory.
+//! Paths are resolved as path_resolution of POSIX.1, 4.13, says, and new nodes are those of open(2) and mkdir(2); the nodes
+//! that a boot makes are this project's own. The table of nodes is made at boot, with room for all of them: after that only
+//! a write to a file can want memory.
 #![tactic(auto)]
 
+mod attributes;
 mod contents;
 mod entry;
 pub mod laws;
 mod names;
+mod new_nodes;
+mod resolve;
+mod rights;
 mod standard;
 mod steps;
 mod table;
@@ -16,6 +22,7 @@ mod walk;
 
 pub use entry::Name255;
 pub use names::TextText;
+pub use resolve::Place;
 pub use std::alloc::AllocError as NoMemory;
 pub use sys_types::{FILE_SPACE, Kind, NAME_BYTES, NODES, Node, PATH_BYTES};
 pub use tree::{Tree, TreeFull, WriteFault};

@@ -201,6 +201,7 @@ impl Tree {
         ensures live { IfOk result (λ node. IsLive self.new node) }
         ensures changes { OnOk result (ChangesAt (path_of self.old dir ++ name.now ∷ []) (Some (new_node kind attrs default [])) self.old self.new) }
         ensures map { OnOk result (nodes_from self.new ≡ with_node_at (nodes_from self.old) (path_of self.old dir ++ name.now ∷ []) (Some (new_node kind attrs default []))) }
+        ensures keeps { OnOk result (Keeps self.old self.new) }
         ensures err { OnErr result (self.new ≡ self.old) }
     {
         let contents = Contents::empty(*self.entries.allocator());

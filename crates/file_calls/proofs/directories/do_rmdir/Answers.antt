@@ -1,4 +1,5 @@
 use Rattle.std.proofs.Common.{◌≡◌, ◌≢◌, true, false, None, refl, sym, ap, ◌∙◌}
+use Rattle.std.specs.Result.{result_err}
 use Rattle.std.proofs.lemmas.Bool.{eqb-true, eq-eqb}
 use Rattle.sys_types.specs.declared.rules.Rule.TheVariants.{LabelWrite, NotEmpty, InUse}
 use Rattle.tree_model.specs.Tree.{is_dir_record, parent_of}
@@ -6,7 +7,7 @@ use Rattle.machine_model.specs.PathCalls.{rmdir_at}
 use Rattle.machine_model.specs.Places.{access_line, node_dominates}
 use Rattle.machine_model.specs.Rows.{denied_by}
 use Rattle.vnode_tree.specs.Nodes.{path_of}
-use Rattle.file_calls.specs.Makes.{what_is, rule_of}
+use Rattle.file_calls.specs.Makes.{what_is}
 use Rattle.file_calls.specs.Views.{view_of}
 use Rattle.file_calls.proofs.Asking.{parent_free}
 use Rattle.file_calls.proofs.Kept.{IsKeptAt, AreKeptAt, other_kept, other_files, open_kept, view_changes}
@@ -23,7 +24,7 @@ returns-then-not-label_writes-clause-does c = λ files line recheck are.
     let v = view_of nodes files caller line recheck in
     let dir : is_dir_record (what_is nodes node) ≡ true = ap is_dir_record (sym c.is_dir.ensures.map) ∙ sym c.is_dir.ensures.itself ∙ c.if-not-is_dir.false in
     let free : access_line v (parent_of place) false true false ≡ None =
-    parent_free nodes caller c.parent.result (parent_of place) (sym c.check.ensures ∙ ap rule_of c.in_default.is) c.parent.ensures.here in
+    parent_free nodes caller c.parent.result (parent_of place) (sym c.check.ensures ∙ ap result_err c.in_default.is) c.parent.ensures.here in
     let label : node_dominates v (what_is nodes node) ≡ false = sym (c.label_writes.ensures files line recheck) ∙ c.if-not-label_writes.true in
     rw c.denied-then-not-label_writes.ensures (at_node v v _ c.args.path.now (rmdir_at v) place (ap denied_by c.in-Ok.ensures.allowed) c.in-Ok.ensures.ends
     (refuses v (rmdir_at v place) LabelWrite (rw (dir, below_root place c.if-is_root.ensures.below, free, label) refl)))
@@ -37,7 +38,7 @@ returns-then-has_children-clause-does c = λ files line recheck are.
     let v = view_of nodes files caller line recheck in
     let dir : is_dir_record (what_is nodes node) ≡ true = ap is_dir_record (sym c.is_dir.ensures.map) ∙ sym c.is_dir.ensures.itself ∙ c.if-not-is_dir.false in
     let free : access_line v (parent_of place) false true false ≡ None =
-    parent_free nodes caller c.parent.result (parent_of place) (sym c.check.ensures ∙ ap rule_of c.in_default.is) c.parent.ensures.here in
+    parent_free nodes caller c.parent.result (parent_of place) (sym c.check.ensures ∙ ap result_err c.in_default.is) c.parent.ensures.here in
     let label : node_dominates v (what_is nodes node) ≡ true = sym (c.label_writes.ensures files line recheck) ∙ c.if-not-label_writes.false in
     rw c.denied-then-has_children.ensures (at_node v v _ c.args.path.now (rmdir_at v) place (ap denied_by c.in-Ok.ensures.allowed) c.in-Ok.ensures.ends
     (refuses v (rmdir_at v place) NotEmpty
@@ -53,7 +54,7 @@ returns-then-eq-clause-does c = λ files line recheck are.
     let v = view_of nodes files caller line recheck in
     let dir : is_dir_record (what_is nodes node) ≡ true = ap is_dir_record (sym c.is_dir.ensures.map) ∙ sym c.is_dir.ensures.itself ∙ c.if-not-is_dir.false in
     let free : access_line v (parent_of place) false true false ≡ None =
-    parent_free nodes caller c.parent.result (parent_of place) (sym c.check.ensures ∙ ap rule_of c.in_default.is) c.parent.ensures.here in
+    parent_free nodes caller c.parent.result (parent_of place) (sym c.check.ensures ∙ ap result_err c.in_default.is) c.parent.ensures.here in
     let label : node_dominates v (what_is nodes node) ≡ true = sym (c.label_writes.ensures files line recheck) ∙ c.if-not-label_writes.false in
     rw c.denied-then-eq.ensures (at_node v v _ c.args.path.now (rmdir_at v) place (ap denied_by c.in-Ok.ensures.allowed) c.in-Ok.ensures.ends
     (refuses v (rmdir_at v place) InUse
@@ -76,7 +77,7 @@ returns-clause-does c = λ files line recheck are.
     let v = view_of nodes files caller line recheck in
     let dir : is_dir_record (what_is nodes node) ≡ true = ap is_dir_record (sym c.is_dir.ensures.map) ∙ sym c.is_dir.ensures.itself ∙ c.if-not-is_dir.false in
     let free : access_line v (parent_of place) false true false ≡ None =
-    parent_free nodes caller c.parent.result (parent_of place) (sym c.check.ensures ∙ ap rule_of c.in_default.is) c.parent.ensures.here in
+    parent_free nodes caller c.parent.result (parent_of place) (sym c.check.ensures ∙ ap result_err c.in_default.is) c.parent.ensures.here in
     let label : node_dominates v (what_is nodes node) ≡ true = sym (c.label_writes.ensures files line recheck) ∙ c.if-not-label_writes.false in
     let away : caller.directory ≢ node =
     λ same. absurd (let never : true ≡ false = sym (eq-eqb node caller.directory (sym same)) ∙ sym c.eq.ensures ∙ c.if-eq.false in cc) in

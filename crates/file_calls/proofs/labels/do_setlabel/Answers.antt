@@ -1,7 +1,8 @@
 use Rattle.std.proofs.Common.{◌≡◌, true, false, refl, sym, ◌∙◌}
 use Rattle.std.proofs.lemmas.Bool.{not-false, not-true}
 use Rattle.sys_types.specs.declared.rules.Rule.TheVariants.{Owner, Relabel}
-use Rattle.machine_model.specs.NodeCalls.{setlabel_at, may_not_relabel, with_element}
+use Rattle.tree_model.specs.Attributes.{with_element}
+use Rattle.machine_model.specs.NodeCalls.{setlabel_at, may_not_relabel}
 use Rattle.machine_model.specs.Places.{is_not_owner}
 use Rattle.file_calls.specs.Makes.{what_is}
 use Rattle.file_calls.specs.Views.{view_of}
@@ -44,5 +45,5 @@ returns-clause-does c = λ files line recheck.
     let inside : may_not_relabel v (what_is nodes node) c.args.element.now ≡ false =
     not-true _ (sym (c.relabels.ensures files line recheck) ∙ c.if-not-relabels.false) in
     rw c.nothing.ensures
-    (changed_there nodes c.set_element.new.tree files caller line recheck c.args.path.now (setlabel_at v c.args.element.now) node
-    (with_element c.args.element.now) c.in-Ok.ensures (rw (own, inside) refl) refl (λ r. refl) c.set_element.ensures.set c.set_element.ensures.map)
+    (changed_there nodes c.set_element.new.self files caller line recheck c.args.path.now (setlabel_at v c.args.element.now) node
+    (with_element c.args.element.now) c.in-Ok.ensures (rw (own, inside) refl) refl (λ r. refl) c.set_element.ensures.set c.set_element.ensures.map c.set_element.ensures.node)

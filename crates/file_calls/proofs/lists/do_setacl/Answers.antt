@@ -6,11 +6,13 @@ use Rattle.call_words.specs.declared.attr.WhichList.TheVariants.{Access, Default
 use Rattle.sys_types.specs.declared.rules.Rule.TheVariants.{LabelWrite, Owner, NotDir, AclBad}
 use Rattle.tree_model.specs.Tree.{NodeRecord}
 use Rattle.acl_core.specs.Acl.{acl_of}
-use Rattle.machine_model.specs.NodeCalls.{setacl_at, lacks_list, is_bad_list, with_entries}
+use Rattle.tree_model.specs.Attributes.{with_entries}
+use Rattle.machine_model.specs.NodeCalls.{setacl_at, lacks_list, is_bad_list}
 use Rattle.machine_model.specs.Places.{node_dominates, is_not_owner}
 use Rattle.vnode_tree.specs.Nodes.{path_of}
 use Rattle.file_calls.specs.Makes.{what_is}
 use Rattle.file_calls.specs.Views.{view_of}
+use Rattle.file_calls.proofs.Kept.{changed_kept, home_kept}
 use Rattle.file_calls.proofs.NodeRows.{refused_there, changed_there, open_there}
 use Rattle.file_calls.proofs.lists.do_setacl.Goals as goal
 
@@ -70,6 +72,14 @@ returns-then-is_bad-clause-does c = λ files line recheck.
     (refused_there nodes files caller line recheck c.args.path.now (setacl_at v c.args.which c.args.entries.now) node AclBad c.in-Ok.ensures
     (rw (label, own, lacks, bad) refl))
 
+pub returns-clause-home : goal.returns-clause-home
+returns-clause-home c =
+    let old = c.args.tree.now in
+    let made = c.new-made.ensures.exact ∙ ap acl_of c.as_slice.ensures.entries in
+    let kept = changed_kept (with_entries c.args.which c.args.entries.now) old c.in-Ok.node c.args.caller.now.directory
+    (keeps_kind c.args.which c.args.entries.now) in
+    rw (c.set_list.ensures.set c.args.entries.now made) (home_kept old _ c.args.caller.now kept c.requires)
+
 pub returns-clause-open_files : goal.returns-clause-open_files
 returns-clause-open_files c = λ files are.
     let made = c.new-made.ensures.exact ∙ ap acl_of c.as_slice.ensures.entries in
@@ -89,6 +99,6 @@ returns-clause-does c = λ files line recheck.
     ap (is_bad_list c.args.which) (sym c.as_slice-2.ensures.entries) ∙ sym c.is_bad.ensures ∙ c.if-is_bad.false in
     let made = c.new-made.ensures.exact ∙ ap acl_of c.as_slice.ensures.entries in
     rw c.nothing.ensures
-    (changed_there nodes c.set_list.new.tree files caller line recheck c.args.path.now (setacl_at v c.args.which c.args.entries.now) node
+    (changed_there nodes c.set_list.new.self files caller line recheck c.args.path.now (setacl_at v c.args.which c.args.entries.now) node
     (with_entries c.args.which c.args.entries.now) c.in-Ok.ensures (rw (label, own, lacks, bad) refl) refl (keeps_kind c.args.which c.args.entries.now)
-    (c.set_list.ensures.set c.args.entries.now made) (c.set_list.ensures.map c.args.entries.now made))
+    (c.set_list.ensures.set c.args.entries.now made) (c.set_list.ensures.map c.args.entries.now made) c.set_list.ensures.node)

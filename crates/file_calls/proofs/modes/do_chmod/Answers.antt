@@ -1,7 +1,8 @@
 use Rattle.std.proofs.Common.{◌≡◌, true, false, refl, sym, ◌∙◌}
 use Rattle.std.proofs.lemmas.Bool.{not-false, not-true}
 use Rattle.sys_types.specs.declared.rules.Rule.TheVariants.{LabelWrite, Owner}
-use Rattle.machine_model.specs.NodeCalls.{chmod_at, with_bits}
+use Rattle.tree_model.specs.Attributes.{with_bits}
+use Rattle.machine_model.specs.NodeCalls.{chmod_at}
 use Rattle.machine_model.specs.Places.{node_dominates, is_not_owner}
 use Rattle.file_calls.specs.Makes.{what_is}
 use Rattle.file_calls.specs.Views.{view_of}
@@ -39,5 +40,5 @@ returns-clause-does c = λ files line recheck.
     let label : node_dominates v (what_is nodes c.in-Ok.node) ≡ true = sym (c.label_writes.ensures files line recheck) ∙ c.if-not-label_writes.false in
     let own : is_not_owner v (what_is nodes c.in-Ok.node) ≡ false = not-true _ (sym (c.owns.ensures files line recheck) ∙ c.if-not-owns.false) in
     rw c.nothing.ensures
-    (changed_there nodes c.set_mode.new.tree files caller line recheck c.args.path.now (chmod_at v c.args.mode) c.in-Ok.node (with_bits c.args.mode)
-    c.in-Ok.ensures (rw (label, own) refl) refl (λ r. refl) c.set_mode.ensures.set c.set_mode.ensures.map)
+    (changed_there nodes c.set_mode.new.self files caller line recheck c.args.path.now (chmod_at v c.args.mode) c.in-Ok.node (with_bits c.args.mode)
+    c.in-Ok.ensures (rw (label, own) refl) refl (λ r. refl) c.set_mode.ensures.set c.set_mode.ensures.map c.set_mode.ensures.node)

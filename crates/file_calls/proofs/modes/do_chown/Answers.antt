@@ -1,7 +1,8 @@
 use Rattle.std.proofs.Common.{◌≡◌, true, false, refl, sym, ◌∙◌}
 use Rattle.sys_types.specs.declared.rules.Rule.TheVariants.{LabelWrite, Super}
 use Rattle.access_rule.specs.Access.{is_superuser}
-use Rattle.machine_model.specs.NodeCalls.{chown_at, with_owner}
+use Rattle.tree_model.specs.Attributes.{with_owner}
+use Rattle.machine_model.specs.NodeCalls.{chown_at}
 use Rattle.machine_model.specs.Places.{node_dominates}
 use Rattle.file_calls.specs.Makes.{what_is}
 use Rattle.file_calls.specs.Views.{view_of}
@@ -41,5 +42,5 @@ returns-clause-does c = λ files line recheck.
     let label : node_dominates v (what_is nodes c.in-Ok.node) ≡ true = sym (c.label_writes.ensures files line recheck) ∙ c.if-not-label_writes.false in
     let superuser : is_superuser caller.cred ≡ true = sym c.is_superuser.ensures ∙ c.if-not-is_superuser.false in
     rw c.nothing.ensures
-    (changed_there nodes c.set_owner.new.tree files caller line recheck c.args.path.now (chown_at v c.args.uid c.args.gid) c.in-Ok.node
-    (with_owner c.args.uid c.args.gid) c.in-Ok.ensures (rw (label, superuser) refl) refl (λ r. refl) c.set_owner.ensures.set c.set_owner.ensures.map)
+    (changed_there nodes c.set_owner.new.self files caller line recheck c.args.path.now (chown_at v c.args.uid c.args.gid) c.in-Ok.node
+    (with_owner c.args.uid c.args.gid) c.in-Ok.ensures (rw (label, superuser) refl) refl (λ r. refl) c.set_owner.ensures.set c.set_owner.ensures.map c.set_owner.ensures.node)

@@ -1,4 +1,5 @@
 use Rattle.std.proofs.Common.{◌≡◌, ◌≢◌, ℕ, true, false, Some, None, refl, sym, ap, ◌∙◌}
+use Rattle.std.specs.Result.{result_err}
 use Rattle.std.specs.List.{list_any}
 use Rattle.sys_types.specs.declared.node.Kind.{Kind}
 use Rattle.sys_types.specs.declared.rules.Rule.TheVariants.{LabelWrite, InUse}
@@ -7,7 +8,7 @@ use Rattle.machine_model.specs.PathCalls.{unlink_at, is_file_of}
 use Rattle.machine_model.specs.Places.{access_line, node_dominates}
 use Rattle.machine_model.specs.Rows.{denied_by}
 use Rattle.vnode_tree.specs.Nodes.{path_of, record_of}
-use Rattle.file_calls.specs.Makes.{what_is, rule_of}
+use Rattle.file_calls.specs.Makes.{what_is}
 use Rattle.file_calls.specs.Views.{view_of}
 use Rattle.file_calls.proofs.Asking.{is_plain, parent_free}
 use Rattle.file_calls.proofs.Kept.{IsKeptAt, AreKeptAt, other_kept, other_files, open_kept, view_changes}
@@ -24,7 +25,7 @@ returns-then-not-label_writes-clause-does c = λ line recheck.
     let v = view_of nodes c.args.files.now caller line recheck in
     let plain = is_plain (record_of nodes node) (what_is nodes node) (c.kind.ensures.kind ∙ ap (λ (k : Kind). Some k) c.in-File.is) c.kind.ensures.map in
     let free : access_line v (parent_of place) false true false ≡ None =
-    parent_free nodes caller c.parent.result (parent_of place) (sym c.check.ensures ∙ ap rule_of c.in_default.is) c.parent.ensures.here in
+    parent_free nodes caller c.parent.result (parent_of place) (sym c.check.ensures ∙ ap result_err c.in_default.is) c.parent.ensures.here in
     let label : node_dominates v (what_is nodes node) ≡ false = sym (c.label_writes.ensures c.args.files.now line recheck) ∙ c.if-not-label_writes.true in
     rw c.denied-then-not-label_writes.ensures (at_node v v _ c.args.path.now (unlink_at v) place (ap denied_by c.in-Ok.ensures.allowed) c.in-Ok.ensures.ends
     (refuses v (unlink_at v place) LabelWrite (rw (plain.0, plain.1, free, label) refl)))
@@ -38,7 +39,7 @@ returns-then-refers_to-clause-does c = λ line recheck.
     let v = view_of nodes c.args.files.now caller line recheck in
     let plain = is_plain (record_of nodes node) (what_is nodes node) (c.kind.ensures.kind ∙ ap (λ (k : Kind). Some k) c.in-File.is) c.kind.ensures.map in
     let free : access_line v (parent_of place) false true false ≡ None =
-    parent_free nodes caller c.parent.result (parent_of place) (sym c.check.ensures ∙ ap rule_of c.in_default.is) c.parent.ensures.here in
+    parent_free nodes caller c.parent.result (parent_of place) (sym c.check.ensures ∙ ap result_err c.in_default.is) c.parent.ensures.here in
     let label : node_dominates v (what_is nodes node) ≡ true = sym (c.label_writes.ensures c.args.files.now line recheck) ∙ c.if-not-label_writes.false in
     let used : list_any (is_file_of place) v.descriptors ≡ true = refers_seen nodes c.args.files.now node (sym c.refers_to.ensures ∙ c.if-refers_to.true) in
     rw c.denied-then-refers_to.ensures (at_node v v _ c.args.path.now (unlink_at v) place (ap denied_by c.in-Ok.ensures.allowed) c.in-Ok.ensures.ends
@@ -61,7 +62,7 @@ returns-clause-does c = λ line recheck.
     let v = view_of nodes files caller line recheck in
     let plain = is_plain (record_of nodes node) (what_is nodes node) (c.kind.ensures.kind ∙ ap (λ (k : Kind). Some k) c.in-File.is) c.kind.ensures.map in
     let free : access_line v (parent_of place) false true false ≡ None =
-    parent_free nodes caller c.parent.result (parent_of place) (sym c.check.ensures ∙ ap rule_of c.in_default.is) c.parent.ensures.here in
+    parent_free nodes caller c.parent.result (parent_of place) (sym c.check.ensures ∙ ap result_err c.in_default.is) c.parent.ensures.here in
     let label : node_dominates v (what_is nodes node) ≡ true = sym (c.label_writes.ensures files line recheck) ∙ c.if-not-label_writes.false in
     let apart = none_refers files node (sym c.refers_to.ensures ∙ c.if-refers_to.false) in
     let unused : list_any (is_file_of place) v.descriptors ≡ false =

@@ -1,5 +1,5 @@
 use Rattle.std.proofs.Common.{rules}
-use Rattle.file_calls.proofs.make.make_node.Goals as goal
+use Rattle.vnode_tree.proofs.tree.Tree.make_node.Goals as goal
 
 pub returns-in-Ok-clause-new_node : goal.returns-in-Ok-clause-new_node
 returns-in-Ok-clause-new_node c = search rules
