@@ -2,3 +2,4 @@ pub mod TimesLemmas
 pub mod LeaseLemmas
 pub mod BlockLemmas
 pub mod CircleLemmas
+pub mod OthersLemmas

@@ -1,3 +1,4 @@
 pub mod Pool
 pub mod Chain
 pub mod WholePool
+pub mod Others

@@ -4,6 +4,7 @@ ghost use Rattle.std.specs.List.{Contains, IsDistinct};
 ghost use Rattle.block_pool.specs.declared.TheConstants.{BLOCK_BYTES, LEASE_BLOCKS};
 ghost use Rattle.block_pool.specs.Pool.{PoolState, contents, times, AreOf, AreAllOf, AreApart, Lends, WritesTo};
 ghost use Rattle.block_pool.specs.Chain.{ChainState, holds};
+ghost use Rattle.block_pool.specs.Others.{KeepsOthers};
 
 /// The blocks of a lease are blocks of its pool, no two of them are the same, and none is free.
 pub fn leased_blocks()
@@ -57,6 +58,23 @@ pub fn own_blocks()
 /// What is written to blocks leaves what every chain over other blocks holds.
 pub fn other_chains()
     ensures { (own : List ℕ) (old new : PoolState) (chain : ChainState) → WritesTo own old new → AreApart own chain.blocks → holds new chain ≡ holds old chain }
+{}
+
+/// What others have of a pool they keep: where nothing is done, over a write to an owner's own blocks, where it takes a lease or
+/// gives one back, and over such calls one after another. The owner's blocks may be listed in any order, and more of its blocks
+/// may be listed that stay. The owner's blocks are of the pool as they were.
+pub fn others_keep()
+    ensures own { (before after : List ℕ) (old new : PoolState) → KeepsOthers before after old new → AreOf old before → AreOf new after }
+    ensures still { (own : List ℕ) (pool : PoolState) → KeepsOthers own own pool pool }
+    ensures writes { (own : List ℕ) (old new : PoolState) → WritesTo own old new → KeepsOthers own own old new }
+    ensures lends { (lease : List ℕ) (old new : PoolState) → Lends lease old new → KeepsOthers [] lease old new }
+    ensures returns { (lease : List ℕ) (old new : PoolState) → Lends lease new old → KeepsOthers lease [] old new }
+    ensures in_turn { (before own after : List ℕ) (old middle new : PoolState) → KeepsOthers before own old middle → KeepsOthers own after middle new
+        → KeepsOthers before after old new }
+    ensures order { (before after first last : List ℕ) (old new : PoolState) → ((block : ℕ) → times block first ≡ times block before)
+        → ((block : ℕ) → times block after ≡ times block last) → KeepsOthers before after old new → KeepsOthers first last old new }
+    ensures beside { (before after beside : List ℕ) (old new : PoolState) → KeepsOthers before after old new
+        → KeepsOthers (before ++ beside) (after ++ beside) old new }
 {}
 
 /// The figures of the limits: the bytes of a block, and the blocks of a lease.

@@ -1,14 +1,13 @@
 -- Rows of the order of the nine cases, of the drawing of bytes, and of queues that are full, worked out by hand.
-use Rattle.std.proofs.Common.{◌≡◌, ℕ, Bool, true, false, List, [], ◌∷◌, ◌++◌, length, replicate, refl, Option, Some, None}
-use Rattle.sys_types.specs.declared.sig.Sig.TheVariants.{INT, QUIT, TSTP}
-use Rattle.termios_core.specs.declared.flags.Flag.TheVariants.{Istrip, Inlcr, Igncr, Icrnl, Ixon, Opost, Onlcr, Ocrnl, Isig, Icanon, Echo, Echok}
-use Rattle.termios_core.specs.declared.flags.Flag.TheVariants.{Echoe, Echonl, Echoctl, Noflsh}
-use Rattle.termios_core.specs.declared.termios.Termios.{Termios}
+use Rattle.std.proofs.Common.{◌≡◌, ℕ, true, false, [], ◌∷◌, length, replicate, refl, Some, None}
+use Rattle.sys_types.specs.declared.sig.Sig.TheVariants.{INT}
+use Rattle.termios_core.specs.declared.flags.Flag.TheVariants.{Istrip, Inlcr, Igncr, Icrnl, Onlcr, Ocrnl, Isig, Icanon, Echo, Echok}
+use Rattle.termios_core.specs.declared.flags.Flag.TheVariants.{Echoe, Echonl, Echoctl}
 use Rattle.termios_core.specs.Termios.{cooked, raw}
-use Rattle.line_disc.specs.Echo.{draw, columns, echo, is_drawn, shown}
-use Rattle.line_disc.specs.Discipline.{Discipline, ReadyLine, bytes, fresh, places, all_cells}
+use Rattle.line_disc.specs.Echo.{draw, columns, shown}
+use Rattle.line_disc.specs.Discipline.{Discipline, bytes, fresh, places, all_cells}
 use Rattle.line_disc.specs.Cook.{cook, interrupt, erase, drop_line, end_file, end_line, add_byte, flush}
-use Rattle.line_disc.specs.Transfers.{read, after_read, waits, put_count, put, output_front, after_take, is_takeable, is_drained, retune}
+use Rattle.line_disc.specs.Transfers.{read, after_read, waits, put_count, put, output_front, is_takeable, is_drained, retune}
 use Rattle.line_disc.proofs.WorkedRows.{type_in, signal_after, with, line_of_255}
 
 -- one place of the input is free: the others are bytes of a line that is not edited; or bytes of a ready line, its end of file and a current line

@@ -1,5 +1,5 @@
 -- What is done at a terminal line is the same whatever the cells of its queues are.
-use Rattle.std.proofs.Common.{◌≡◌, ℕ, Bool, true, false, cond, List, [], map, refl, sym, ap, ◌∙◌}
+use Rattle.std.proofs.Common.{◌≡◌, ℕ, Bool, true, false, cond, List, map, refl, sym, ap, ◌∙◌}
 use Rattle.std.specs.Prelude.{not, ◌&&◌, if◌then◌else◌, Option, Some, None, option_map, option_and_then, unwrap_or, is_some}
 use Rattle.sys_types.specs.declared.sig.Sig.{Sig}
 use Rattle.termios_core.specs.declared.termios.Termios.{Termios}

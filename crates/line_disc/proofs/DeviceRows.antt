@@ -1,5 +1,5 @@
 -- Rows of a terminal line as a device, worked out by hand.
-use Rattle.std.proofs.Common.{◌≡◌, ℕ, Bool, true, false, List, [], ◌∷◌, ◌++◌, replicate, refl, Option, Some, None}
+use Rattle.std.proofs.Common.{◌≡◌, ℕ, true, false, List, [], ◌∷◌, refl, Option, Some, None}
 use Rattle.sys_types.specs.declared.sig.Sig.{Sig}
 use Rattle.sys_types.specs.declared.sig.Sig.TheVariants.{INT}
 use Rattle.termios_core.specs.declared.termios.Termios.{Termios}

@@ -9,7 +9,7 @@ use Rattle.sys_types.specs.declared.sig.Sig.{Sig}
 use Rattle.line_disc.specs.Echo.{newline, is_char, shown, echo, erase_echo, drop_line_echo}
 use Rattle.line_disc.specs.Discipline.{Cells, ReadyLine, Input, Discipline, no_input, line_places, places, map_ready, map_input, map_discipline}
 use Rattle.line_disc.specs.Cook.{put_whole, strip, is_flow, set_flow, signal_of, flush, interrupt, translate, erase_last, erase, drop_line, is_full, make_ready}
-use Rattle.line_disc.specs.Cook.{end_file, end_line, is_long, add_byte, enter, enter_as, cook_by_case, cook_cut, cook}
+use Rattle.line_disc.specs.Cook.{end_file, end_line, is_long, add_byte, enter, enter_as, cook_by_case, cook}
 
 -- a choice of two lines
 chosen : {B C : Type 0} (f : B → C) (t u : Bool) (x y : Discipline B) (v w : Discipline C) → t ≡ u → map_discipline f x ≡ v → map_discipline f y ≡ w

@@ -1,6 +1,6 @@
 -- What is read, written and taken at a line, and its settings, are the same whatever the cells of its queues are.
-use Rattle.std.proofs.Common.{◌≡◌, ℕ, zero, suc, ◌+◌, ◌-◌, Bool, true, false, cond, List, [], ◌∷◌, ◌++◌, length, map, take, drop, min, refl, sym, ap, ap₂, ◌∙◌}
-use Rattle.std.specs.Prelude.{not, ◌&&◌, nat_lt, if◌then◌else◌, Option, Some, None, option_map}
+use Rattle.std.proofs.Common.{◌≡◌, ℕ, zero, suc, ◌-◌, Bool, true, false, cond, List, [], ◌∷◌, ◌++◌, map, take, drop, min, refl, sym, ap, ap₂, ◌∙◌}
+use Rattle.std.specs.Prelude.{not, ◌&&◌, nat_lt, Some, None, option_map}
 use Rattle.std.specs.List.{flat_map}
 use Rattle.std.proofs.lemmas.List.{length-map, map-append, drop-map}
 use Rattle.sys_types.specs.declared.limits.TheConstants.{OUTPUT_BYTES}

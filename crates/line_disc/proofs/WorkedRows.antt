@@ -8,7 +8,7 @@ use Rattle.termios_core.specs.declared.flags.Flag.TheVariants.{Echonl, Echoctl, 
 use Rattle.termios_core.specs.Flags.{with_flag}
 use Rattle.termios_core.specs.declared.termios.Termios.{Termios}
 use Rattle.termios_core.specs.Termios.{cooked, raw}
-use Rattle.line_disc.specs.Discipline.{Discipline, ReadyLine, bytes, fresh, places}
+use Rattle.line_disc.specs.Discipline.{Discipline, bytes, fresh, places}
 use Rattle.line_disc.specs.Cook.{cook, interrupt, erase, drop_line, end_file, end_line, add_byte, flush}
 use Rattle.line_disc.specs.Transfers.{read, after_read, put_count, put, output_front, after_take, is_takeable, is_drained, retune}
 

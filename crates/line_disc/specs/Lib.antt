@@ -5,3 +5,4 @@ pub mod Transfers
 pub mod Device
 pub mod Places
 pub mod Disc
+pub mod Lines

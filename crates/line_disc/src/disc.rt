@@ -25,6 +25,7 @@ const INPUT_BLOCKS: u16 = 8;
 /// The line discipline of a terminal line, over a lease of 40 blocks (termios(4)).
 ///
 /// Contracts see of it a `DiscState`, which is read over the pool of its blocks as a `Discipline`. No call takes memory.
+#[derive(Drop)]
 pub struct Disc {
     termios: Termios,
     input: Input,
@@ -363,8 +364,8 @@ impl Disc {
         append_shown(&mut self.output, pool, &self.termios, written)
     }
 
-    /// Whether a read of so many bytes waits.
-    fn waits(&self, max: u16) -> bool
+    /// Whether a read of so many bytes waits: for a ready line, or without icanon for MIN bytes, or `max` where that is less.
+    pub fn waits(&self, max: u16) -> bool
         ensures waits { (pool : PoolState) → result ≡ waits (discipline_of pool self.now) max }
         ensures seen { (pool : PoolState) → has_none (input_of pool self.now.input).ready ≡ all_bytes self.now.input.kinds }
     {

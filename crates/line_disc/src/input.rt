@@ -14,6 +14,7 @@ use std::marker::Model;
 use sys_types::{INPUT_PLACES, PIECE_BYTES, Piece};
 
 /// The input queue of a line. An end of file takes a place as a byte does, so its chain has a byte for it that nobody reads.
+#[derive(Drop)]
 pub(crate) struct Input {
     chain: Chain,
     kinds: PlaceKinds,

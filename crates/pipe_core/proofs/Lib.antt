@@ -1,4 +1,5 @@
 pub mod MapLemmas
 pub mod BlockLemmas
 pub mod PlaceLemmas
+pub mod OwnerLemmas
 mod WorkedRows

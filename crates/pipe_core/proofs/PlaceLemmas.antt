@@ -51,7 +51,8 @@ writes-all old new pipes k h is writes =
 
 -- the pipe of a place was changed over its own blocks
 pub pipes_of-how : (old new : PoolState) (places : List (Option Labelled)) (k : ℕ) (l : Labelled) (chain : ChainState) (how : List ℕ → List ℕ)
-    → AreOf old (blocks_of (pipes_of places)) → WritesTo l.pipe.blocks old new → held_at (pipes_of places) k ≡ Some (held_of l) → holds new chain ≡ how (holds old l.pipe)
+    → AreOf old (blocks_of (pipes_of places)) → WritesTo l.pipe.blocks old new → held_at (pipes_of places) k ≡ Some (held_of l)
+    → holds new chain ≡ how (holds old l.pipe)
     → bytes_of new (pipes_of (set places k (Some (record { pipe = chain; element = l.element })))) ≡ change how (bytes_of old (pipes_of places)) k
 pipes_of-how old new places k l chain how all writes is changed =
     ap (bytes_of new) (pipes_of-set places k (Some (record { pipe = chain; element = l.element })))

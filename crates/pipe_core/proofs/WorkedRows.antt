@@ -1,9 +1,9 @@
 -- Rows of pipes, worked out by hand and computed from the definitions.
-use Rattle.std.proofs.Common.{◌≡◌, ℕ, zero, suc, true, false, List, [], ◌∷◌, ◌++◌, replicate, refl, Option, Some, None}
+use Rattle.std.proofs.Common.{◌≡◌, ℕ, zero, suc, true, false, List, [], ◌∷◌, replicate, refl, Some, None}
 use Rattle.label_core.specs.declared.element.Element.TheVariants.{Low, High}
 use Rattle.block_pool.specs.Pool.{PoolState}
 use Rattle.block_pool.specs.Chain.{ChainState, holds}
-use Rattle.pipe_core.specs.Pipes.{Held, Pipes, held_at, is_there, contents_at, element_at, free_pipes, lowest_free, add, remove, put, take_front, map_pipes}
+use Rattle.pipe_core.specs.Pipes.{Pipes, is_there, contents_at, element_at, free_pipes, lowest_free, add, remove, put, take_front, map_pipes}
 use Rattle.pipe_core.specs.Chains.{bytes_of, blocks_of}
 
 -- no pipe of sixteen, one of low, and a second of high behind it

@@ -4,6 +4,7 @@
 //! put whole or not at all, as writes of at most PIPE_BUF bytes are (write(2)). No call takes memory.
 #![tactic(auto)]
 
+pub mod laws;
 mod pipe;
 mod pipes;
 

@@ -1,18 +1,18 @@
 //! The table of pipes.
 ghost use Rattle.std.specs.Prelude.{◌≡◌, ℕ, ◌+◌, ◌<◌, ◌≤◌, ◌↔◌, ◌++◌, length, replicate, take, Some, None, is_none, option_copied, option_map, position};
-ghost use Rattle.std.specs.Prelude.{slice_index_or, slice_set, IsTrue};
+ghost use Rattle.std.specs.Prelude.{[], slice_index_or, slice_set, IsTrue, IsErr, IfOk, OnOk, OnErr, All};
 ghost use Rattle.std.specs.Bool.{OnTrue, OnFalse};
-ghost use Rattle.sys_types.specs.declared.limits.TheConstants.{PIPES, PIECE_BYTES};
+ghost use Rattle.sys_types.specs.declared.limits.TheConstants.{PIPES, PIPE_BLOCKS, PIECE_BYTES};
 ghost use Rattle.block_pool.specs.Pool.{AreOf, WritesTo, times};
 ghost use Rattle.block_pool.specs.Chain.{ChainState, holds, places};
 ghost use Rattle.pipe_core.specs.Pipes.{is_there, contents_at, element_at, free_pipes, lowest_free, add, remove, put, take_front};
-ghost use Rattle.pipe_core.specs.Chains.{bytes_of, blocks_of};
+ghost use Rattle.pipe_core.specs.Chains.{bytes_of, blocks_of, HoldsBlocks, KeepsPipes};
 
 use crate::pipe::Pipe;
-use block_pool::Pool;
+use block_pool::{Pool, PoolFull};
 use label_core::Element;
 use std::marker::Model;
-use sys_types::{PIPES, Piece};
+use sys_types::{PIPE_BLOCKS, PIPES, Piece};
 
 /// A pipe with its element.
 #[derive(Drop)]
@@ -61,7 +61,8 @@ fn take_of(places: &mut [Option<Labelled>], k: u16) -> Option<Labelled>
 impl Pipes {
     /// No pipes.
     pub fn new() -> Pipes
-        ensures { result ≡ replicate PIPES None }
+        ensures none { result ≡ replicate PIPES None }
+        ensures blocks { All HoldsBlocks result }
     {
         Pipes {
             places: [
@@ -69,6 +70,23 @@ impl Pipes {
                 None, None,
             ],
         }
+    }
+
+    /// Makes an empty pipe of this element over 32 blocks of the pool, under the lowest free number, and says which (pipe(2)). A number
+    /// is free. `PoolFull` comes exactly where fewer blocks are free, and then nothing changes.
+    pub fn create(&mut self, pool: &mut Pool, element: Element) -> Result<u16, PoolFull>
+        requires { 0 < free_pipes self.old }
+        ensures full { IsErr result ↔ (length pool.old.free < PIPE_BLOCKS) }
+        ensures number { IfOk result (λ number. number ≡ lowest_free self.old) }
+        ensures bytes { OnOk result (bytes_of pool.new self.new ≡ add (bytes_of pool.old self.old) [] element) }
+        ensures keeps { KeepsPipes pool.old pool.new self.old self.new }
+        ensures err { OnErr result ((self.new ≡ self.old) × (pool.new ≡ pool.old)) }
+    {
+        let lease = match pool.reserve(PIPE_BLOCKS) {
+            Ok(lease) => lease,
+            Err(full) => return Err(full),
+        };
+        Ok(self.add(Pipe::over(lease), element))
     }
 
     /// Adds a pipe with its maker's element under the lowest free number, and says which. A number is free.
@@ -119,6 +137,7 @@ impl Pipes {
         ensures blocks { blocks_of self.new ≡ blocks_of self.old }
         ensures writes { WritesTo (blocks_of self.old) pool.old pool.new }
         ensures of_pool { AreOf pool.new (blocks_of self.new) }
+        ensures keeps { KeepsPipes pool.old pool.new self.old self.new }
     {
         match &mut self.places[usize::from(k)] {
             Some(labelled) => labelled.pipe.put(pool, bytes),
@@ -135,6 +154,7 @@ impl Pipes {
         ensures front { Some result ≡ option_map (take max) (contents_at (bytes_of pool.now self.old) k) }
         ensures rest { bytes_of pool.now self.new ≡ take_front (bytes_of pool.now self.old) k max }
         ensures blocks { blocks_of self.new ≡ blocks_of self.old }
+        ensures keeps { KeepsPipes pool.now pool.now self.old self.new }
     {
         match &mut self.places[usize::from(k)] {
             Some(labelled) => labelled.pipe.take(pool, max),
@@ -151,5 +171,16 @@ impl Pipes {
     {
         let Labelled { pipe, element: _ } = take_of(&mut self.places, k).unwrap();
         pipe
+    }
+
+    /// Takes a pipe out of the table and makes its blocks free. It is there, and the blocks of all pipes are of the pool. It never wants
+    /// memory.
+    pub fn release(&mut self, k: u16, pool: &mut Pool)
+        requires there { IsTrue (is_there self.old k) }
+        requires of_pool { AreOf pool.old (blocks_of self.old) }
+        ensures bytes { bytes_of pool.new self.new ≡ remove (bytes_of pool.old self.old) k }
+        ensures keeps { KeepsPipes pool.old pool.new self.old self.new }
+    {
+        pool.give_back(self.remove(k).into_lease());
     }
 }

@@ -1,9 +1,12 @@
 -- Rows of the files of a line and of what contracts see of it, worked out by hand.
-use Rattle.std.proofs.Common.{◌≡◌, ℕ, Bool, true, false, List, [], ◌∷◌, refl, Option, Some, None}
+use Rattle.std.proofs.Common.{◌≡◌, ℕ, true, false, List, [], ◌∷◌, refl, Some, None}
 use Rattle.termios_core.specs.Termios.{cooked, raw}
-use Rattle.line_disc.specs.Disc.{DiscState}
-use Rattle.tty_dev.specs.Line.{LineState, boot_termios, blocks_in, held_by, is_dead, is_last, live_after, new_blocks}
-use Rattle.tty_dev.specs.History.{Counts, opens, closes, revokes, at_first, after, is_revoked_in, files_after_use, may_close}
+use Rattle.block_pool.specs.Pool.{PoolState}
+use Rattle.block_pool.specs.Chain.{ChainState}
+use Rattle.line_disc.specs.Device.{closed_device, open_file}
+use Rattle.tty_dev.specs.Table.{devices, lines_held, counts_of, boots_of, count_at, use_line, is_dead_at, is_last_at}
+use Rattle.tty_dev.specs.Line.{LineState, boot_termios, termios_of, device_of, held_by, is_dead, is_last, live_after}
+use Rattle.tty_dev.specs.History.{opens, closes, revokes, at_first, after, is_revoked_in, files_after_use, may_close}
 
 -- Which files are dead.
 
@@ -102,3 +105,80 @@ may_close_dead = refl
 
 may_not_close : may_close (record { generation = 3; live = 0 }) [] (closes 3) ≡ false
 may_not_close = refl
+
+-- Lines by their numbers: the first has two live files and is cooked, the second has none and is raw.
+
+abbrev two_lines : List LineState
+two_lines = with_live 2 ∷ record (with_live 0) { is_cooked = false } ∷ []
+
+counts_of_two : counts_of two_lines ≡ record { generation = 2; live = 2 } ∷ record { generation = 2; live = 0 } ∷ []
+unfolding counts_of
+counts_of_two = refl
+
+boots_of_two : boots_of two_lines ≡ true ∷ false ∷ []
+unfolding boots_of
+boots_of_two = refl
+
+devices_of_two : (pool : PoolState) → devices pool two_lines ≡ device_of pool (with_live 2) ∷ device_of pool (with_live 0) ∷ []
+unfolding devices
+devices_of_two pool = refl
+
+-- a number past the last has no file
+past_the_last : count_at (counts_of two_lines) 2 ≡ at_first
+unfolding counts_of
+past_the_last = refl
+
+-- a use is of one line
+second_opened : use_line opens (counts_of two_lines) 1 ≡ record { generation = 2; live = 2 } ∷ record { generation = 2; live = 1 } ∷ []
+unfolding counts_of
+second_opened = refl
+
+first_revoked : use_line revokes (counts_of two_lines) 0 ≡ record { generation = 3; live = 0 } ∷ record { generation = 2; live = 0 } ∷ []
+unfolding counts_of
+first_revoked = refl
+
+dead_at_first : is_dead_at (counts_of two_lines) 0 1 ≡ true
+unfolding counts_of
+dead_at_first = refl
+
+not_dead_at_first : is_dead_at (counts_of two_lines) 0 2 ≡ false
+unfolding counts_of
+not_dead_at_first = refl
+
+-- of two live files the second close is the last
+one_of_two_at : is_last_at (counts_of two_lines) 0 2 ≡ false
+unfolding counts_of
+one_of_two_at = refl
+
+last_of_two_at : is_last_at (use_line (closes 2) (counts_of two_lines) 0) 0 2 ≡ true
+unfolding counts_of
+last_of_two_at = refl
+
+-- that of a dead file is not
+dead_at_second : is_last_at (counts_of two_lines) 1 1 ≡ false
+unfolding counts_of
+dead_at_second = refl
+
+-- the blocks of all lines, by number: those of a line's input, then those of its output
+abbrev chain_over : List ℕ → ChainState
+chain_over blocks = record { blocks = blocks; first = 0; count = 0 }
+
+abbrev over : List ℕ → List ℕ → LineState
+over input output = record (with_live 1) {
+  disc = Some (record { termios = raw; input = record { chain = chain_over input; kinds = [] }; output = chain_over output; stopped = false });
+}
+
+blocks_of_three : lines_held (over (3 ∷ []) (4 ∷ 5 ∷ []) ∷ with_live 0 ∷ over (8 ∷ []) (9 ∷ []) ∷ []) ≡ 3 ∷ 4 ∷ 5 ∷ 8 ∷ 9 ∷ []
+unfolding lines_held
+blocks_of_three = refl
+
+-- the settings of a line: those of its boot while no file of it is live
+
+settings_of_boot : termios_of true (closed_device {C = ℕ}) ≡ cooked
+settings_of_boot = refl
+
+raw_settings_of_boot : termios_of false (closed_device {C = ℕ}) ≡ raw
+raw_settings_of_boot = refl
+
+settings_of_open : termios_of true (open_file raw (closed_device {C = ℕ})) ≡ raw
+settings_of_open = refl

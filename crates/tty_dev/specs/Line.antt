@@ -1,10 +1,10 @@
 -- A terminal line as a device over the pool of its blocks (tty(4)).
 use Rattle.std.specs.Prelude.{◌≡◌, ℕ, ◌+◌, ◌-◌, length, Bool, true, false, not, ◌&&◌, List, [], nat_lt, nat_le, if◌then◌else◌, Option, Some, None, is_some}
-use Rattle.std.specs.Prelude.{option_map}
+use Rattle.std.specs.Prelude.{option_map, unwrap_or}
 use Rattle.termios_core.specs.declared.termios.Termios.{Termios}
 use Rattle.termios_core.specs.Termios.{cooked, raw}
 use Rattle.block_pool.specs.Pool.{PoolState}
-use Rattle.line_disc.specs.Device.{Device}
+use Rattle.line_disc.specs.Device.{Device, settings}
 use Rattle.line_disc.specs.Disc.{DiscState, discipline_of, blocks_of}
 
 -- what contracts see of a line: its device, how often it was revoked, how many of its files are live, and whether the boot
@@ -23,6 +23,10 @@ pub record LineState : Type 0 where
 -- the settings that the boot gives a line
 abbrev pub boot_termios : Bool → Termios
 boot_termios is_cooked = if is_cooked then cooked else raw
+
+-- the settings of a line, which are those of the boot while no file of it is live
+abbrev pub termios_of : {C : Type 0} → Bool → Device C → Termios
+termios_of is_cooked line = unwrap_or (settings line) (boot_termios is_cooked)
 
 -- the device that a line is, read over its pool
 abbrev pub device_of : PoolState → LineState → Device ℕ
@@ -64,6 +68,7 @@ pub record KeepsCounts (old new : LineState) : Type 0 where
   pub generation : new.generation ≡ old.generation
   pub live : new.live ≡ old.live
   pub is_cooked : new.is_cooked ≡ old.is_cooked
+  pub is_open : is_some new.disc ≡ is_some old.disc
   pub held : held_by new ≡ held_by old
 
 -- an open adds one live file

@@ -1,4 +1,5 @@
-//! One terminal line as a device (tty(4)): its opens and closes, its carrier, its end, and revoke(2).
+//! Terminal lines as devices (tty(4)): opens and closes, bytes, carrier, end and revoke(2) of one line, and of one among the lines
+//! of a kernel.
 //!
 //! A file of a line keeps the generation at which it was opened, which is the number of revokes of the line until then. It
 //! is dead where the line's generation is above that, so a revoke touches no file.
@@ -6,5 +7,6 @@
 
 pub mod laws;
 mod line;
+pub mod table;
 
 pub use line::Line;

@@ -5,8 +5,9 @@ ghost use Rattle.sys_types.specs.declared.limits.TheConstants.{LINE_BLOCKS, OPEN
 ghost use Rattle.block_pool.specs.Pool.{PoolState, AreOf, Lends, WritesTo};
 ghost use Rattle.line_disc.specs.Discipline.{bytes};
 ghost use Rattle.line_disc.specs.Device.{closed_device, open_file, close_last, receive, output_of, take_output, is_connected, disconnect, set_carrier};
-ghost use Rattle.line_disc.specs.Device.{hangs_up, end_for_good, revoke};
-ghost use Rattle.tty_dev.specs.Line.{boot_termios, device_of, blocks_in, held_by, new_blocks, is_dead, is_last, live_after, KeepsCounts, AddsOneFile};
+ghost use Rattle.line_disc.specs.Device.{hangs_up, end_for_good, revoke, read, after_read, put, put_count, flush, retune, set_session, set_foreground};
+ghost use Rattle.line_disc.specs.Device.{waits, is_takeable, is_drained};
+ghost use Rattle.tty_dev.specs.Line.{boot_termios, termios_of, device_of, blocks_in, held_by, new_blocks, is_dead, is_last, live_after, KeepsCounts, AddsOneFile};
 
 use block_pool::{Pool, PoolFull};
 use line_disc::Disc;
@@ -16,6 +17,7 @@ use termios_core::Termios;
 
 /// A terminal line (tty(4)). It holds 40 blocks of the pool while a file of it is live: from the first open to the last
 /// close or a revoke.
+#[derive(Drop)]
 pub struct Line {
     /// Whether a terminal is at the line.
     pub carrier: bool,
@@ -78,17 +80,6 @@ fn boot_termios(is_cooked: bool) -> Termios
     }
 }
 
-/// Puts a discipline where there is none.
-fn put(place: &mut Option<Disc>, disc: Disc)
-    requires { place.old ≡ None }
-    ensures { place.new ≡ Some disc }
-{
-    match place.replace(disc) {
-        None => {}
-        Some(_other) => unreachable!(),
-    }
-}
-
 /// Takes a discipline away, and gives its blocks back to the pool.
 fn give_back(place: &mut Option<Disc>, pool: &mut Pool)
     requires { AreOf pool.old (blocks_in place.old) }
@@ -143,10 +134,7 @@ impl Line {
                 Ok(lease) => lease,
                 Err(full) => return Err(full),
             };
-            put(
-                &mut self.disc,
-                Disc::over(lease, boot_termios(self.is_cooked)),
-            );
+            self.disc = Some(Disc::over(lease, boot_termios(self.is_cooked)));
         }
         self.live += 1;
         Ok(self.generation)
@@ -220,6 +208,112 @@ impl Line {
         match &mut self.disc {
             Some(disc) => disc.take(pool, max),
             None => Piece::empty(),
+        }
+    }
+
+    /// Reads up to `max` bytes, at most 512 (read(2)). `None` where the read waits, and where no file is live.
+    pub fn read(&mut self, pool: &Pool, max: u16) -> Option<Piece>
+        requires most { max ≤ PIECE_BYTES }
+        requires of_pool { AreOf pool.now (held_by self.old) }
+        ensures bytes { result ≡ read (device_of pool.now self.old) max }
+        ensures line { device_of pool.now self.new ≡ after_read (device_of pool.now self.old) max }
+        ensures keeps { KeepsCounts self.old self.new }
+    {
+        self.disc.as_mut()?.read(pool, max)
+    }
+
+    /// Writes as many of the bytes as fit into the output, each with all that goes out for it (write(2)). Answers how many: none
+    /// where no file is live.
+    pub fn write(&mut self, pool: &mut Pool, written: &[u8]) -> u16
+        requires { AreOf pool.old (held_by self.old) }
+        ensures count { result ≡ put_count (device_of pool.old self.old) written.now }
+        ensures line { device_of pool.new self.new ≡ put bytes (device_of pool.old self.old) written.now }
+        ensures keeps { KeepsCounts self.old self.new }
+        ensures writes { WritesTo (held_by self.old) pool.old pool.new }
+    {
+        match &mut self.disc {
+            Some(disc) => disc.put_out(pool, written),
+            None => 0,
+        }
+    }
+
+    /// Empties the input, the output, or both (tcflush(3)).
+    pub fn flush(&mut self, input: bool, output: bool)
+        ensures line { (pool : PoolState) → device_of pool self.new ≡ flush (device_of pool self.old) input output }
+        ensures keeps { KeepsCounts self.old self.new }
+    {
+        let Some(disc) = &mut self.disc else {
+            return;
+        };
+        disc.flush(input, output);
+    }
+
+    /// Gives the line other settings, while a file of it is live (tcsetattr(3)).
+    pub fn retune(&mut self, pool: &mut Pool, termios: Termios)
+        requires { AreOf pool.old (held_by self.old) }
+        ensures line { device_of pool.new self.new ≡ retune (device_of pool.old self.old) termios }
+        ensures keeps { KeepsCounts self.old self.new }
+        ensures writes { WritesTo (held_by self.old) pool.old pool.new }
+    {
+        if let Some(disc) = &mut self.disc {
+            disc.retune(pool, termios);
+        }
+    }
+
+    /// Makes it the controlling terminal of a session, with a group in the foreground (tcsetsid(3)).
+    pub fn set_session(&mut self, session: u32, foreground: u32)
+        ensures line { (pool : PoolState) → device_of pool self.new ≡ set_session (device_of pool self.old) session foreground }
+        ensures keeps { KeepsCounts self.old self.new }
+    {
+        self.session = Some(session);
+        self.foreground = foreground;
+    }
+
+    /// Brings another group of its session to the foreground (tcsetpgrp(3)).
+    pub fn set_foreground(&mut self, foreground: u32)
+        ensures line { (pool : PoolState) → device_of pool self.new ≡ set_foreground (device_of pool self.old) foreground }
+        ensures keeps { KeepsCounts self.old self.new }
+    {
+        self.foreground = foreground;
+    }
+
+    /// Whether a read of so many bytes waits: never where no file is live.
+    pub fn waits(&self, max: u16) -> bool
+        ensures { (pool : PoolState) → result ≡ waits (device_of pool self.now) max }
+    {
+        match &self.disc {
+            Some(disc) => disc.waits(max),
+            None => false,
+        }
+    }
+
+    /// Whether a taking would give a byte.
+    pub fn is_takeable(&self) -> bool
+        ensures { (pool : PoolState) → result ≡ is_takeable (device_of pool self.now) }
+    {
+        match &self.disc {
+            Some(disc) => disc.takeable(),
+            None => false,
+        }
+    }
+
+    /// Whether all output has been taken (tcdrain(3)).
+    pub fn is_drained(&self) -> bool
+        ensures { (pool : PoolState) → result ≡ is_drained (device_of pool self.now) }
+    {
+        match &self.disc {
+            Some(disc) => disc.drained(),
+            None => true,
+        }
+    }
+
+    /// Its settings (tcgetattr(3)): those that the boot gives it while no file of it is live.
+    pub fn termios(&self) -> Termios
+        ensures { (pool : PoolState) → result ≡ termios_of self.now.is_cooked (device_of pool self.now) }
+    {
+        match &self.disc {
+            Some(disc) => *disc.termios(),
+            None => boot_termios(self.is_cooked),
         }
     }
 

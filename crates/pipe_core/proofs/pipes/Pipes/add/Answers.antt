@@ -29,7 +29,8 @@ returns-clause-pipes c =
 pub returns-clause-blocks : goal.returns-clause-blocks
 returns-clause-blocks c = λ block. (
     let first = first-some c.self.inside.places c.unwrap-number.result (sym c.lowest_of.ensures ∙ c.unwrap-number.ensures) in
-    let inside : c.unwrap-number.result < length (pipes_of c.self.inside.places) = omega (arith, first.1, length-map c.self.inside.places (option_map held_of)) in
+    let inside : c.unwrap-number.result < length (pipes_of c.self.inside.places) =
+    omega (arith, first.1, length-map c.self.inside.places (option_map held_of)) in
     ap (λ (v : Pipes ChainState). times block (blocks_of v))
     (pipes_of-set c.self.inside.places c.unwrap-number.result (Some (record { pipe = c.args.pipe; element = c.args.element })))
     ∙ times-added block (pipes_of c.self.inside.places) c.unwrap-number.result c.args.pipe c.args.element inside

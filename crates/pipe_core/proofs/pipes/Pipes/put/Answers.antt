@@ -1,13 +1,14 @@
-use Rattle.std.proofs.Common.{◌≡◌, ◌++◌, ℕ, List, Option, true, sym, ap, ◌∙◌, subst}
+use Rattle.std.proofs.Common.{◌≡◌, ◌++◌, ℕ, List, Option, Some, set, true, sym, ap, ◌∙◌, subst}
 use Rattle.std.proofs.lemmas.Bool.{OnTrue_at, OnTrue_from}
 use Rattle.block_pool.specs.Chain.{ChainState}
 use Rattle.block_pool.specs.Pool.{AreOf, WritesTo}
 use Rattle.block_pool.proofs.LeaseLemmas.{leased_written}
 use Rattle.pipe_core.specs.Pipes.{Pipes, Held, is_there, put}
-use Rattle.pipe_core.specs.Chains.{bytes_of, blocks_of, blocks_in}
+use Rattle.pipe_core.specs.Chains.{bytes_of, blocks_of, blocks_in, KeepsPipes}
 use Rattle.pipe_core.specs.Labelled.{pipes_of, held_of}
 use Rattle.pipe_core.proofs.BlockLemmas.{blocks-part}
 use Rattle.pipe_core.proofs.PlaceLemmas.{place-within, held-is, writes-all, pipes_of-how, pipes_of-blocks}
+use Rattle.pipe_core.proofs.OwnerLemmas.{place-keeps}
 use Rattle.pipe_core.proofs.pipes.Pipes.put.Goals as goal
 
 pub put-requires : goal.put-requires
@@ -65,3 +66,16 @@ pub returns-clause-of_pool : goal.returns-clause-of_pool
 returns-clause-of_pool c =
     subst (λ (blocks : List ℕ). AreOf c.put.new.pool blocks) (sym (returns-clause-blocks c))
     (leased_written (blocks_of c.args.self.now) c.args.pool.now c.put.new.pool (blocks_of c.args.self.now) (returns-clause-writes c) c.requires.of_pool)
+
+pub returns-clause-keeps : goal.returns-clause-keeps
+returns-clause-keeps c =
+    let there : is_there (pipes_of c.self.inside.places) c.from.result ≡ true =
+    subst (λ (i : ℕ). is_there (pipes_of c.self.inside.places) i ≡ true) (sym c.from.ensures)
+    (subst (λ (v : Pipes ChainState). is_there v c.args.k ≡ true) (sym c.self.view_is) c.requires.there) in
+    let within = place-within c.self.inside.places c.from.result there in
+    let is = held-is c.self.inside.places c.from.result c.index-self-from.result c.in-Some.labelled within c.in-Some.is in
+    subst (λ (v : Pipes ChainState). KeepsPipes c.args.pool.now c.put.new.pool v
+    (pipes_of (set c.self.inside.places c.from.result (Some (record { pipe = c.put.new.self; element = c.in-Some.labelled.element })))))
+    c.self.view_is
+    (place-keeps c.args.pool.now c.put.new.pool c.self.inside.places c.from.result c.in-Some.labelled c.put.new.self c.put.ensures.writes within is
+    c.put.ensures.blocks)

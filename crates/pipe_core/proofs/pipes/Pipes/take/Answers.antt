@@ -1,12 +1,13 @@
-use Rattle.std.proofs.Common.{◌≡◌, ℕ, Option, drop, true, sym, ap, ◌∙◌, subst}
+use Rattle.std.proofs.Common.{◌≡◌, ℕ, Option, Some, drop, set, true, sym, ap, ◌∙◌, subst}
 use Rattle.block_pool.specs.Chain.{ChainState}
 use Rattle.block_pool.specs.Pool.{AreOf}
 use Rattle.block_pool.proofs.BlockLemmas.{writes_none}
 use Rattle.pipe_core.specs.Pipes.{Pipes, Held, is_there, take_front}
-use Rattle.pipe_core.specs.Chains.{bytes_of, blocks_of, blocks_in}
+use Rattle.pipe_core.specs.Chains.{bytes_of, blocks_of, blocks_in, KeepsPipes}
 use Rattle.pipe_core.specs.Labelled.{pipes_of}
 use Rattle.pipe_core.proofs.BlockLemmas.{blocks-part}
 use Rattle.pipe_core.proofs.PlaceLemmas.{place-within, held-is, pipes_of-how, pipes_of-blocks}
+use Rattle.pipe_core.proofs.OwnerLemmas.{place-keeps}
 use Rattle.pipe_core.proofs.pipes.Pipes.take.Goals as goal
 
 pub take-requires-clause-of_pool : goal.take-requires-clause-of_pool
@@ -47,3 +48,17 @@ returns-clause-blocks c =
     c.in-Some.is in
     pipes_of-blocks c.self.inside.places c.from.result c.in-Some.labelled c.take.new.self is c.take.ensures.blocks
     ∙ ap (λ (v : Pipes ChainState). blocks_of v) c.self.view_is
+
+pub returns-clause-keeps : goal.returns-clause-keeps
+returns-clause-keeps c =
+    let there : is_there (pipes_of c.self.inside.places) c.from.result ≡ true =
+    subst (λ (i : ℕ). is_there (pipes_of c.self.inside.places) i ≡ true) (sym c.from.ensures)
+    (subst (λ (v : Pipes ChainState). is_there v c.args.k ≡ true) (sym c.self.view_is) c.requires.there) in
+    let within = place-within c.self.inside.places c.from.result there in
+    let is = held-is c.self.inside.places c.from.result c.index-self-from.result c.in-Some.labelled within c.in-Some.is in
+    subst (λ (v : Pipes ChainState). KeepsPipes c.args.pool.now c.args.pool.now v
+    (pipes_of (set c.self.inside.places c.from.result (Some (record { pipe = c.take.new.self; element = c.in-Some.labelled.element })))))
+    c.self.view_is
+    (place-keeps c.args.pool.now c.args.pool.now c.self.inside.places c.from.result c.in-Some.labelled c.take.new.self
+    (writes_none c.in-Some.labelled.pipe.blocks c.args.pool.now) within is
+    c.take.ensures.blocks)
