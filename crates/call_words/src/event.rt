@@ -65,6 +65,13 @@ pub enum How {
     Stop(Sig),
 }
 
+/// An exit with status 0: for the unused places of an `ArrayVec`.
+impl Default for How {
+    fn default() -> Self {
+        How::Exit(0)
+    }
+}
+
 /// For what a pending call sleeps.
 #[derive(Clone, Copy, PartialEq, Eq)]
 pub enum Reason {

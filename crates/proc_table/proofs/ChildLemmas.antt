@@ -1,5 +1,5 @@
 -- CHLD to the parent of a child is a post of CHLD to that parent.
-use Rattle.std.proofs.Common.{◌≡◌, ◌≢◌, ℕ, ◌<◌, Bool, true, false, cond, ◌&&◌, List, [], ◌∷◌, length, Option, Some, None, eqb}
+use Rattle.std.proofs.Common.{◌≡◌, ℕ, ◌<◌, Bool, true, false, cond, ◌&&◌, List, [], ◌∷◌, length, Option, Some, None, eqb}
 use Rattle.std.proofs.Common.{refl, sym, ap, ◌∙◌, ⊎_elim, true≢false, arith}
 use Rattle.std.specs.Prelude.{nat_lt, IsTrue, option_map, option_and_then}
 use Rattle.std.specs.List.{position_or_len, IsAmong}

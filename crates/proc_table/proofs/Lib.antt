@@ -3,9 +3,12 @@ mod EndingListLemmas
 mod OrderLemmas
 mod RisingLemmas
 pub mod MapLemmas
+pub mod CallMapLemmas
 mod PidLemmas
 mod PidOrderLemmas
 mod ChildLemmas
+pub mod ChangeLemmas
+mod KillLemmas
 mod Scenes
 mod SignalRows
 mod ForkRows

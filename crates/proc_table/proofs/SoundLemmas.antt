@@ -1,7 +1,7 @@
 -- Posts and ends keep the slots, and leave on the list of those to be ended each process once.
-use Rattle.std.proofs.Common.{◌≡◌, ℕ, zero, suc, ◌+◌, ◌<◌, ◌≤◌, Bool, true, false, cond, List, [], ◌∷◌, ◌++◌, map, length, fold, filter, refl, ap, sym, ◌∙◌}
+use Rattle.std.proofs.Common.{◌≡◌, ℕ, zero, suc, ◌<◌, ◌≤◌, Bool, true, false, cond, List, [], ◌∷◌, ◌++◌, length, fold, refl, ◌∙◌}
 use Rattle.std.proofs.Common.{subst, arith}
-use Rattle.std.specs.Prelude.{◌&&◌, Option, Some, None, is_none, option_map, option_and_then, slice_index_or, slice_set, slice_get}
+use Rattle.std.specs.Prelude.{Option, Some, None, option_and_then, slice_index_or}
 use Rattle.std.proofs.lemmas.List.{length-set, length-map}
 use Rattle.sys_types.specs.declared.limits.TheConstants.{SLOTS}
 use Rattle.sys_types.specs.declared.sig.Sig.{Sig}
@@ -12,11 +12,12 @@ use Rattle.call_words.specs.declared.signal.To.{To}
 use Rattle.call_words.specs.declared.signal.To.TheVariants as to
 use Rattle.proc_table.specs.declared.post.Disposition.{Disposition}
 use Rattle.proc_table.specs.declared.post.Disposition.TheVariants as disposition
-use Rattle.proc_table.specs.Processes.{Process, Slot, empty_slot, Processes, slot_at, process_at, running_of, running_at, put_slot, change_process, holds}
+use Rattle.proc_table.specs.Processes.{Process, Slot, empty_slot, Processes, running_of, running_at, put_slot, change_process, holds}
 use Rattle.proc_table.specs.Processes.{slot_of, add_caught}
-use Rattle.proc_table.specs.Posts.{Posted, disposition_of, continue, continue_at, add_ending, is_ending, IsEndingList, catches_child, catch_child, post_child}
+use Rattle.proc_table.specs.Posts.{Posted, disposition_of, continue_at, add_ending, is_ending, IsEndingList, catches_child, catch_child, post_child}
 use Rattle.proc_table.specs.Posts.{stop, dispose, post_if_running, post_at, post_all, post, receivers}
-use Rattle.proc_table.specs.Endings.{adopt_in, adopt_all, end_in, end_process, end_at, groups_orphaned_by, hang_up, bury}
+use Rattle.proc_table.specs.Endings.{adopt_in, adopt_all, end_in, end_process, end_at, groups_orphaned_by, hang_up, bury, bury_in}
+use Rattle.proc_table.specs.Changes.{with_directory}
 use Rattle.proc_table.proofs.EndingListLemmas.{has-room, list-behind}
 
 -- a running process stands in one of the slots
@@ -131,6 +132,15 @@ pub sound_bury : {D : Type 0} (t : Processes D) (slot : ℕ) (why : How) (ending
 sound_bury t slot why ending sound =
     sound-hang_up (groups_orphaned_by t (end_at t slot why)) (record { table = end_at t slot why; ending = ending })
     (record { slots = ends-length t slot why ∙ sound.slots; list = sound.list })
+
+pub sound_change : {D : Type 0} (how : Process D → Process D) (t : Processes D) (slot : ℕ) (ending : List (ℕ × How)) → IsSound t ending
+    → IsSound (change_process how t slot) ending
+sound_change how t slot ending sound = record { slots = put-length t slot _ ∙ sound.slots; list = sound.list }
+
+pub sound_bury_in : {D : Type 0} (root : D) (t : Processes D) (slot : ℕ) (why : How) (ending : List (ℕ × How)) → IsSound t ending
+    → IsSound (bury_in root t slot why ending).table (bury_in root t slot why ending).ending
+sound_bury_in root t slot why ending sound =
+    sound_bury (change_process (with_directory root) t slot) slot why ending (sound_change (with_directory root) t slot ending sound)
 
 -- as many are to be ended as there are slots, at the most
 pub sound_most : (ending : List (ℕ × How)) → IsEndingList ending → length ending ≤ SLOTS

@@ -5,7 +5,8 @@ use Rattle.call_words.specs.declared.event.How.{How}
 use Rattle.call_words.specs.declared.event.How.TheVariants as how
 use Rattle.call_words.specs.declared.signal.To.TheVariants as to
 use Rattle.proc_table.specs.declared.proc.TheConstants.{INIT}
-use Rattle.proc_table.specs.Processes.{Process, Slot, Processes, is_running, is_stopped, slot_at, running_at, put_slot, any_running, is_orphaned}
+use Rattle.proc_table.specs.Processes.{Process, Slot, Processes, is_running, is_stopped, slot_at, running_at, put_slot, change_process, any_running, is_orphaned}
+use Rattle.proc_table.specs.Changes.{with_directory}
 use Rattle.proc_table.specs.Posts.{Posted, post_child, post}
 
 -- a child of a process gets init(8), pid 1, as its parent, a zombie too
@@ -78,3 +79,7 @@ abbrev pub bury : {D : Type 0} → Processes D → ℕ → How → List (ℕ × 
 bury t slot why ending =
     let after = end_at t slot why in
     fold hang_up (record { table = after; ending = ending }) (groups_orphaned_by t after)
+
+-- the same of a process that lets its working directory go first: a zombie's counts as the root
+abbrev pub bury_in : {D : Type 0} → D → Processes D → ℕ → How → List (ℕ × How) → Posted D
+bury_in root t slot why ending = bury (change_process (with_directory root) t slot) slot why ending

@@ -8,3 +8,8 @@ pub mod Roles
 pub mod Groups
 pub mod Kept
 pub mod Order
+pub mod Background
+pub mod Changes
+pub mod Jobs
+pub mod Kills
+pub mod Listing

@@ -1,6 +1,7 @@
 //! What a process does at each signal.
-ghost use Rattle.std.specs.Prelude.{◌≡◌, ◌<◌};
+ghost use Rattle.std.specs.Prelude.{◌≡◌, ◌<◌, map};
 ghost use Rattle.proc_table.specs.Processes.{action_of, set_action, default_actions};
+ghost use Rattle.proc_table.specs.Changes.{reset_action};
 
 use call_words::Action;
 use std::marker::Model;
@@ -27,6 +28,24 @@ impl Model for Actions {
     ghost invariant = { λ a. length a.actions ≡ SIGNAL_NUMBERS };
 }
 
+/// A signal that was caught does again what it does by default.
+fn reset_action(action: &mut Action)
+    ensures { action.new ≡ reset_action action.old }
+{
+    if *action == Action::Catch {
+        *action = Action::Normal;
+    }
+}
+
+/// The same for each of these.
+fn reset_all(actions: &mut [Action])
+    ensures { actions.new ≡ map reset_action actions.old }
+{
+    for action in actions.iter_mut() {
+        reset_action(action);
+    }
+}
+
 impl Actions {
     /// Every signal does what it does by default.
     pub fn normal() -> Self
@@ -49,6 +68,13 @@ impl Actions {
         ensures { self.new ≡ set_action self.old sig to }
     {
         self.actions[usize::from(sig.number())] = to;
+    }
+
+    /// Every signal that was caught does again what it does by default (execve(2)).
+    pub fn reset(&mut self)
+        ensures { self.new ≡ map reset_action self.old }
+    {
+        reset_all(&mut self.actions);
     }
 
     /// Equal actions.

@@ -11,7 +11,7 @@ use crate::post::EndingList;
 use crate::table::ProcTable;
 use arrayvec::ArrayVec;
 use call_words::{How, To};
-use sys_types::{SLOTS, Sig};
+use sys_types::{Node, SLOTS, Sig};
 
 impl ProcTable {
     /// Gives each child of a pid, a zombie too, pid 1 as its parent.
@@ -123,5 +123,18 @@ impl ProcTable {
         self.end_at(slot, how);
         let groups = self.to_hang_up(groups.as_slice());
         self.hang_up_all(groups.as_slice(), ending);
+    }
+
+    /// Ends the running process of a slot as `bury` does, once its working directory has become the root: a zombie keeps no directory in
+    /// use. The list `ending` holds slots below 32, and none twice. (_exit(2))
+    pub fn bury_in_root(&mut self, slot: u8, how: How, ending: &mut EndingList)
+        requires slot { slot < SLOTS }
+        requires running { IsTrue (is_some (spec.running_at self.old slot)) }
+        requires list { posts.IsEndingList ending.old.items }
+        ensures posted { posts.table_and_list self.new ending.new.items ≡ endings.bury_in 0 self.old slot how ending.old.items }
+        ensures list { posts.IsEndingList ending.new.items }
+    {
+        self.set_directory(slot, Node::ROOT);
+        self.bury(slot, how, ending);
     }
 }

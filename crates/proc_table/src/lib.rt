@@ -5,8 +5,11 @@
 #![tactic(auto)]
 
 mod actions;
+mod changes;
 mod ending;
 mod groups;
+mod jobs;
+mod kill;
 pub mod laws;
 mod lookup;
 mod order;
@@ -18,6 +21,7 @@ mod table;
 
 pub use actions::{Actions, SIGNAL_NUMBERS};
 pub use call_words::{Action, How, To};
+pub use kill::Pids;
 pub use post::{EndingList, add_ending};
 pub use proc::{INIT, Proc, ProcState};
 pub use table::{NoMemory, ProcTable};

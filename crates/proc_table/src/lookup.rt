@@ -29,6 +29,22 @@ pub(crate) fn any_stopped(places: &[Place], group: u32) -> bool
     places.iter().any(|place| place.has_stopped(group))
 }
 
+/// Whether some slot has a running process of a group.
+pub(crate) fn any_member(places: &[Place], group: u32) -> bool
+    ensures { result ≡ list_any (λ s. spec.holds (λ p. spec.is_running p && p.group == group) s.process) places.now }
+{
+    places.iter().any(|place| place.has_member(group))
+}
+
+/// Whether some slot has a running process of a group in a session.
+pub(crate) fn any_member_in(places: &[Place], group: u32, session: u32) -> bool
+    ensures { result ≡ list_any (λ s. spec.holds (λ p. spec.is_running p && (p.group == group && p.session == session)) s.process) places.now }
+{
+    places
+        .iter()
+        .any(|place| place.has_member_in(group, session))
+}
+
 /// Whether some slot has a child of a pid that a wait names.
 pub(crate) fn any_child(places: &[Place], parent: u32, who: u32) -> bool
     ensures { result ≡ list_any (λ s. spec.holds (reaping.is_child parent who) s.process) places.now }

@@ -17,7 +17,7 @@ use sys_types::Sig;
 /// directories are numbers of nodes.
 #[derive(Drop)]
 pub(crate) struct Place {
-    process: Option<Proc>,
+    pub(crate) process: Option<Proc>,
     pending_of_empty: Option<Call>,
     left: bool,
 }
@@ -69,6 +69,28 @@ impl Place {
         match &self.process {
             None => false,
             Some(process) => process.is_running() && process.group == group && process.is_stopped(),
+        }
+    }
+
+    /// Whether it has a running process of a group.
+    pub(crate) fn has_member(&self, group: u32) -> bool
+        ensures { result ≡ spec.holds (λ p. spec.is_running p && p.group == group) self.now.process }
+    {
+        match &self.process {
+            None => false,
+            Some(process) => process.is_running() && process.group == group,
+        }
+    }
+
+    /// Whether it has a running process of a group in a session.
+    pub(crate) fn has_member_in(&self, group: u32, session: u32) -> bool
+        ensures { result ≡ spec.holds (λ p. spec.is_running p && (p.group == group && p.session == session)) self.now.process }
+    {
+        match &self.process {
+            None => false,
+            Some(process) => process.is_running()
+                && process.group == group
+                && process.session == session,
         }
     }
 
@@ -125,12 +147,14 @@ impl Place {
         self.process = Some(process);
     }
 
-    /// Sets the pending call. The slot has no process.
+    /// Sets the pending call.
     pub(crate) fn set_pending(&mut self, call: Option<Call>)
-        requires { self.old.process ≡ None }
         ensures { self.new ≡ record self.old { pending = call } }
     {
-        self.pending_of_empty = call;
+        match &mut self.process {
+            Some(process) => process.pending = call,
+            None => self.pending_of_empty = call,
+        }
     }
 
     /// The slot is not left any more.

@@ -4,12 +4,13 @@ ghost use Rattle.proc_table.specs.Processes as spec;
 ghost use Rattle.proc_table.specs.Posts as posts;
 ghost use Rattle.proc_table.specs.Endings as endings;
 ghost use Rattle.proc_table.specs.Reaping as reaping;
+ghost use Rattle.proc_table.specs.Changes as changes;
 ghost use Rattle.proc_table.specs.Forks.{child_of};
 ghost use Rattle.proc_table.specs.Procs.{process_of};
 
 use crate::actions::Actions;
 use acl_core::Cred;
-use call_words::{Call, How};
+use call_words::{Action, Call, How};
 use label_core::Subject;
 use sys_types::{Image, Node, Piece, Sig};
 
@@ -131,6 +132,27 @@ impl Proc {
         ensures { result ≡ spec.least_caught (process_of self.now) }
     {
         first_caught(&Sig::all(), self)
+    }
+
+    /// It has another program with these arguments; what it caught does again what it does by default, and nothing caught is pending.
+    pub(crate) fn exec(&mut self, image: Image, args: Piece)
+        ensures process { process_of self.new ≡ changes.exec_process (process_of self.old) image args }
+        ensures pending { self.new.pending ≡ self.old.pending }
+    {
+        self.image = image;
+        self.args = args;
+        self.actions.reset();
+        self.caught = 0;
+        self.execed = true;
+    }
+
+    /// Sets what it does at a signal, and takes such a signal away, if it is pending.
+    pub(crate) fn set_action(&mut self, sig: Sig, action: Action)
+        ensures process { process_of self.new ≡ changes.act_on sig action (process_of self.old) }
+        ensures pending { self.new.pending ≡ self.old.pending }
+    {
+        self.actions.set(sig, action);
+        self.drop_caught(sig);
     }
 
     /// Ends a stop.

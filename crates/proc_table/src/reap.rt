@@ -87,4 +87,55 @@ impl ProcTable {
             Ok(None)
         }
     }
+
+    /// The pid of the zombie of a slot, and how it ended.
+    fn ending_of(&self, slot: u8) -> Option<(u32, How)>
+        ensures { Ok result ≡ (reaping.reap_zombie self.now slot (spec.process_at self.now slot)).1 }
+    {
+        let process = self.get(slot)?;
+        match process.state {
+            ProcState::Running => None,
+            ProcState::Zombie(how) => Some((process.pid, how)),
+        }
+    }
+
+    /// The pid of the process of a slot, and which signal stopped it.
+    fn stop_of(&self, slot: u8) -> Option<(u32, How)>
+        ensures { Ok result ≡ (reaping.report_stop self.now slot (spec.process_at self.now slot)).1 }
+    {
+        let process = self.get(slot)?;
+        let sig = process.stopped?;
+        Some((process.pid, How::Stop(sig)))
+    }
+
+    /// The stop of least pid among the children of a pid that a wait names, if there is one.
+    fn least_stop(&self, parent: u32, who: u32) -> Option<(u32, How)>
+        ensures { Ok result ≡ (reaping.report_or_none self.now (reaping.least (reaping.is_stopped_child parent who) self.now)).1 }
+    {
+        self.stop_of(self.least(Role::StoppedChild { parent, who })?)
+    }
+
+    /// What a wait of the process of a slot would learn of its children, while nothing changes: what `reap` would answer. It is refused by
+    /// `NoChild` exactly where no child is the one of the pid `who`, or any where that is 0. (wait4(2))
+    pub fn child_news(
+        &self,
+        caller: u8,
+        who: u32,
+        untraced: bool,
+    ) -> Result<Option<(u32, How)>, Rule>
+        ensures { result ≡ (reaping.reap self.now caller who untraced).1 }
+    {
+        let parent = self.pid_at(caller);
+        if !self.has_child(parent, who) {
+            return Err(Rule::NoChild);
+        }
+        if let Some(slot) = self.least(Role::Zombie { parent, who }) {
+            return Ok(self.ending_of(slot));
+        }
+        if untraced {
+            Ok(self.least_stop(parent, who))
+        } else {
+            Ok(None)
+        }
+    }
 }

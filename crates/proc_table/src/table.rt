@@ -142,6 +142,21 @@ impl ProcTable {
         self.places[usize::from(slot)].set_pending(call);
     }
 
+    /// The call that is pending in a slot, with a process or without. `None` comes exactly where none is.
+    pub fn pending(&self, slot: u8) -> Option<&Call>
+        ensures { option_copied result ≡ spec.pending_at self.now slot }
+    {
+        self.places.get(usize::from(slot))?.pending()
+    }
+
+    /// Sets the call that is pending in a slot, with a process or without.
+    pub fn set_pending(&mut self, slot: u8, call: Option<Call>)
+        requires { slot < SLOTS }
+        ensures { self.new ≡ spec.set_pending self.old slot call }
+    {
+        self.places[usize::from(slot)].set_pending(call);
+    }
+
     /// Whether a signal ended the slot's last process, and `told` was not called for the slot since.
     pub fn is_left(&self, slot: u8) -> bool
         requires { slot < SLOTS }
@@ -158,9 +173,10 @@ impl ProcTable {
         self.places[usize::from(slot)].tell();
     }
 
-    /// The running process of a slot.
-    pub(crate) fn running(&self, slot: u8) -> Option<&Proc>
-        ensures { option_map process_of (option_copied result) ≡ spec.running_at self.now slot }
+    /// The running process of a slot, with its pending call. `None` comes exactly where the slot has none.
+    pub fn running(&self, slot: u8) -> Option<&Proc>
+        ensures process { option_map process_of (option_copied result) ≡ spec.running_at self.now slot }
+        ensures pending { IfSome result (λ process. process.now.pending ≡ spec.pending_at self.now slot) }
     {
         let process = self.get(slot)?;
         if process.is_running() {
@@ -170,8 +186,8 @@ impl ProcTable {
         }
     }
 
-    /// The running process of a pid.
-    pub(crate) fn running_by_pid(&self, pid: u32) -> Option<&Proc>
+    /// The running process of a pid. `None` comes exactly where no running process has it.
+    pub fn running_by_pid(&self, pid: u32) -> Option<&Proc>
         ensures { option_map process_of (option_copied result) ≡ spec.running_by_pid self.now pid }
     {
         self.running(self.slot_of(pid)?)
@@ -179,8 +195,9 @@ impl ProcTable {
 }
 
 impl ProcTable {
-    /// The lowest slot that a fork may take.
-    fn lowest_slot(&self) -> Option<u8>
+    /// The lowest slot that a fork may take: it has no process, zombies counted, no pending call but a `begin`, and is not left. `None`
+    /// comes exactly where there is none.
+    pub fn lowest_slot(&self) -> Option<u8>
         ensures slot { result ≡ forks.lowest_slot self.now }
         ensures most { IfSome result (λ slot. slot < SLOTS) }
     {
