@@ -2,7 +2,7 @@
 -- mac_get_file(3).
 use Rattle.std.specs.Prelude.{ℕ, ◌+◌, ◌/◌, ◌%◌, Bool, true, false, not, ◌&&◌, ◌==◌, List, [], ◌∷◌, ◌++◌, length, Option, Some, None, option_map, if◌then◌else◌}
 use Rattle.std.specs.Prelude.{codes}
-use Rattle.std.specs.Result.{is_err, result_ok, result_unwrap_or}
+use Rattle.std.specs.Result.{is_err}
 use Rattle.std.specs.Str.{byte}
 use Rattle.std.specs.Fmt.{decimal}
 use Rattle.label_core.specs.declared.element.Element.{Element}
@@ -10,7 +10,7 @@ use Rattle.label_core.specs.Subject.{may_relabel}
 use Rattle.label_core.specs.Text.{element_text}
 use Rattle.acl_core.specs.declared.entry.Entry.{Entry}
 use Rattle.acl_core.specs.Acl.{acl_of}
-use Rattle.acl_core.specs.Mode.{mode_of, with_mode}
+use Rattle.acl_core.specs.Mode.{mode_of}
 use Rattle.acl_core.specs.Text.{list_text}
 use Rattle.sys_types.specs.declared.node.Kind.{Kind}
 use Rattle.sys_types.specs.declared.node.Kind.TheVariants as kind
@@ -18,6 +18,7 @@ use Rattle.sys_types.specs.declared.rules.Rule.TheVariants.{LabelRead, LabelWrit
 use Rattle.call_words.specs.declared.attr.WhichList.{WhichList}
 use Rattle.call_words.specs.declared.attr.WhichList.TheVariants.{Access, Default}
 use Rattle.access_rule.specs.Access.{is_superuser}
+use Rattle.tree_model.specs.Attributes.{with_bits, with_owner, with_element, with_entries}
 use Rattle.tree_model.specs.Tree.{NodeRecord, is_dir_record, is_file}
 use Rattle.proc_table.specs.Processes.{Process}
 use Rattle.system_model.specs.Parts.{Path}
@@ -62,22 +63,6 @@ info_row v slot path = on_node v slot path (info_at v slot)
 abbrev pub change_node : View → Path → (NodeRecord → NodeRecord) → List Effect
 change_node v place how = on_tree (set_node place (option_map how (node_at v place))) ∷ []
 
-abbrev pub with_list : List Entry → NodeRecord → NodeRecord
-with_list list what = record what { attrs = record (what.attrs) { list = list } }
-
--- the list with the bits of a mode
-abbrev pub with_bits : ℕ → NodeRecord → NodeRecord
-with_bits mode what = with_list (with_mode what.attrs.list mode) what
-
-abbrev pub with_owner : ℕ → ℕ → NodeRecord → NodeRecord
-with_owner uid gid what = record what { attrs = record (what.attrs) { owner = uid; group = gid } }
-
-abbrev pub with_element : Element → NodeRecord → NodeRecord
-with_element element what = record what { attrs = record (what.attrs) { element = element } }
-
-abbrev pub with_default : Option (List Entry) → NodeRecord → NodeRecord
-with_default list what = record what { default = list }
-
 abbrev pub chmod_at : View → ℕ → ℕ → Path → Row
 chmod_at v slot mode place = record {
   checks = deny (not (node_dominates (caller_of v slot) (node_at v place))) LabelWrite
@@ -114,11 +99,6 @@ lacks_list v place which = is_default which && not (is_dir_record (node_at v pla
 -- without entries the default list goes; all else must make a list
 abbrev pub is_bad_list : WhichList → List Entry → Bool
 is_bad_list which entries = not (is_default which && (length entries == 0)) && is_err (acl_of entries)
-
--- the node with the list that entries make, or without a default list where they make none
-abbrev pub with_entries : WhichList → List Entry → NodeRecord → NodeRecord
-with_entries Access entries what = with_list (result_unwrap_or (acl_of entries) what.attrs.list) what
-with_entries Default entries what = with_default (result_ok (acl_of entries)) what
 
 abbrev pub setacl_at : View → ℕ → WhichList → List Entry → Path → Row
 setacl_at v slot which entries place = record {

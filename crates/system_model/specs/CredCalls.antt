@@ -9,6 +9,7 @@ use Rattle.sys_types.specs.declared.rules.Rule.TheVariants.{Super, Proclabel}
 use Rattle.access_rule.specs.Access.{is_superuser}
 use Rattle.call_words.specs.Groups.{groups_word}
 use Rattle.proc_table.specs.Processes.{Process}
+use Rattle.proc_table.specs.Changes.{with_cred, with_label, with_umask}
 use Rattle.system_model.specs.Parts.{Path}
 use Rattle.system_model.specs.State.{View}
 use Rattle.system_model.specs.ProcessEffects.{set_process}
@@ -20,14 +21,14 @@ use Rattle.system_model.specs.Looks.{caller_of}
 abbrev pub setcred_row : View → ℕ → Cred → Row
 setcred_row v slot cred = record {
   checks = deny (not (is_superuser (caller_of v slot).cred)) Super ∷ [];
-  effects = on_processes (set_process slot (record (caller_of v slot) { cred = cred })) ∷ [];
+  effects = on_processes (set_process slot (with_cred cred (caller_of v slot))) ∷ [];
   answer = number 0;
 }
 
 abbrev pub setproclabel_row : View → ℕ → Subject → Row
 setproclabel_row v slot subject = record {
   checks = deny (not (may_become (caller_of v slot).label subject)) Proclabel ∷ [];
-  effects = on_processes (set_process slot (record (caller_of v slot) { label = subject })) ∷ [];
+  effects = on_processes (set_process slot (with_label subject (caller_of v slot))) ∷ [];
   answer = number 0;
 }
 
@@ -35,7 +36,7 @@ setproclabel_row v slot subject = record {
 abbrev pub umask_row : View → ℕ → ℕ → Row
 umask_row v slot mode = record {
   checks = [];
-  effects = on_processes (set_process slot (record (caller_of v slot) { umask = mode })) ∷ [];
+  effects = on_processes (set_process slot (with_umask mode (caller_of v slot))) ∷ [];
   answer = number (caller_of v slot).umask;
 }
 

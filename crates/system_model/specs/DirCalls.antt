@@ -6,6 +6,7 @@ use Rattle.sys_types.specs.declared.node.Kind.TheVariants as kind
 use Rattle.sys_types.specs.declared.rules.Rule.TheVariants.{Exists, NotDir, IsDir, InUse, LabelWrite, NotEmpty, Device}
 use Rattle.fd_table.specs.Shared.{holds}
 use Rattle.proc_table.specs.Processes.{any_running}
+use Rattle.proc_table.specs.Changes.{with_directory}
 use Rattle.tree_model.specs.Tree.{NodeRecord, WalkEnd, found, absent, missing, not_dir, name_long, path_long, is_dir_record, parent_of}
 use Rattle.tree_model.specs.Listing.{names_under, is_empty_dir, names_text}
 use Rattle.system_model.specs.Parts.{Path, Target, node, read_end, write_end, tty}
@@ -22,7 +23,7 @@ chdir_at v slot place = record {
   checks = deny (not (is_dir_record (node_at v place))) NotDir
       ∷ access_check v slot place false false true
       ∷ [];
-  effects = on_processes (set_process slot (record (caller_of v slot) { directory = place })) ∷ [];
+  effects = on_processes (set_process slot (with_directory place (caller_of v slot))) ∷ [];
   answer = number 0;
 }
 

@@ -6,7 +6,7 @@ use Rattle.pipe_core.specs.Pipes.{remove}
 use Rattle.line_disc.specs.Device.{close_last}
 use Rattle.system_model.specs.Parts.{Target, node, read_end, write_end, tty, File, Parts}
 use Rattle.system_model.specs.Keeping.{Keeping, is_end_of, is_live_of}
-use Rattle.system_model.specs.Lines.{change_line}
+use Rattle.line_disc.specs.Lines.{change_line}
 
 pub data FileEffect : Type 0 where
   -- a file is opened at the lowest free number of a slot, which is closed on exec or not

@@ -1,6 +1,5 @@
 pub mod Parts
 pub mod State
-pub mod Lines
 pub mod Keeping
 pub mod FileEffects
 pub mod PipeEffects
@@ -24,5 +23,6 @@ pub mod LineEvents
 pub mod Endings
 pub mod Step
 pub mod Run
-pub mod Laws
-pub mod Stands
+pub mod Tables
+pub mod Fit
+pub mod Closing

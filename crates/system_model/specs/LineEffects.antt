@@ -5,7 +5,7 @@ use Rattle.line_disc.specs.Device as device
 use Rattle.system_model.specs.Parts.{Parts}
 use Rattle.system_model.specs.State.{Revokes}
 use Rattle.system_model.specs.Keeping.{Keeping}
-use Rattle.system_model.specs.Lines.{change_line}
+use Rattle.line_disc.specs.Lines.{change_line}
 
 pub data LineEffect : Type 0 where
   -- a file of the line is opened; its first one finds these settings

@@ -8,7 +8,7 @@ use Rattle.line_disc.specs.Discipline.{bytes as byte_cells}
 use Rattle.line_disc.specs.Device.{Device}
 use Rattle.line_disc.specs.Device as device
 use Rattle.system_model.specs.State.{View}
-use Rattle.system_model.specs.Lines.{change_line}
+use Rattle.line_disc.specs.Lines.{change_line}
 use Rattle.system_model.specs.LineEffects.{receive_byte, take_output, set_carrier, end_line}
 use Rattle.system_model.specs.ProcessEffects.{post}
 use Rattle.system_model.specs.Effects.{Effect, on_lines, on_processes, halt}

@@ -3,23 +3,23 @@ use Rattle.std.specs.Prelude.{ℕ, ◌+◌, ◌-◌, ◌*◌, Bool, true, false,
 use Rattle.std.specs.Prelude.{option_and_then, unwrap_or, position, count_by, codes, if◌then◌else◌}
 use Rattle.std.specs.Ordering.{eq_by_cmp}
 use Rattle.label_core.specs.declared.element.Element.{Element}
-use Rattle.label_core.specs.Element.{dom}
 use Rattle.sys_types.specs.declared.limits.TheConstants.{NODES, POOL_BLOCKS, LINE_BLOCKS, PIPE_BLOCKS, RAW_LINE}
 use Rattle.sys_types.specs.declared.node.Kind.{Kind}
 use Rattle.termios_core.specs.declared.termios.Termios.{Termios}
 use Rattle.termios_core.specs.Termios.{cooked, raw}
-use Rattle.access_rule.specs.Access.{is_superuser}
 use Rattle.tree_model.specs.Tree.{NodeRecord, WalkEnd, walk, at_path, path_cmp}
+use Rattle.tree_model.specs.Rights as rights
 use Rattle.tree_model.specs.Paths.{path_rule, node_rule, path_at, access_rule}
 use Rattle.tree_model.specs.NewNodes.{make_rule_in, new_in_dir}
 use Rattle.tree_model.specs.Standard.{line_name}
 use Rattle.fd_table.specs.Shared as shared
 use Rattle.line_disc.specs.Discipline.{Discipline}
 use Rattle.line_disc.specs.Device.{Device}
+use Rattle.proc_table.specs.Groups.{is_number}
 use Rattle.proc_table.specs.Processes.{Process, first_process, running_at}
 use Rattle.system_model.specs.Parts.{Path, File}
 use Rattle.system_model.specs.State.{OpenFile, View}
-use Rattle.system_model.specs.Lines.{line_at}
+use Rattle.line_disc.specs.Lines.{line_at}
 use Rattle.system_model.specs.Rows.{Check, Row, deny_by, behind}
 
 -- ---- who asks
@@ -72,13 +72,11 @@ access_check v slot place read write exec = deny_by (access_rule (caller_of v sl
 
 -- the caller's active element dominates that of the node
 abbrev pub dominates_node : Process Path → Option NodeRecord → Bool
-dominates_node who None = true
-dominates_node who (Some node) = dom who.label.active node.attrs.element
+dominates_node who node = rights.dominates_node who.label node
 
 -- the node's element dominates the caller's active one
 abbrev pub node_dominates : Process Path → Option NodeRecord → Bool
-node_dominates who None = true
-node_dominates who (Some node) = dom node.attrs.element who.label.active
+node_dominates who node = rights.node_dominates who.label node
 
 -- the first rule by which the caller makes no node in a directory, and the node that it makes
 abbrev pub make_check : View → ℕ → Path → Option Check
@@ -89,8 +87,7 @@ made_by v slot dir kind mode = new_in_dir (caller_of v slot).cred (caller_of v s
 
 -- the caller neither owns the node nor is the superuser
 abbrev pub is_not_owner : Process Path → Option NodeRecord → Bool
-is_not_owner who None = false
-is_not_owner who (Some node) = not (who.cred.uid == node.attrs.owner) && not (is_superuser who.cred)
+is_not_owner who node = rights.is_not_owner who.cred node
 
 -- ---- lines
 
@@ -112,10 +109,6 @@ termios_by boot (Some d) = d.termios
 -- the settings of a line, which are those of the boot while no file of it is live
 abbrev pub termios_of : View → ℕ → Termios
 termios_of v n = termios_by (boot_termios n) (line_of v n).discipline
-
-abbrev pub is_number : ℕ → Option ℕ → Bool
-is_number n None = false
-is_number n (Some other) = other == n
 
 -- the line is the controlling terminal of a session (tty(4))
 abbrev pub has_session : ℕ → Device ℕ → Bool

@@ -5,27 +5,26 @@ use Rattle.std.specs.Prelude.{is_some, Result, Ok, Err, option_map, option_and_t
 use Rattle.std.specs.List.{find, range_with_len}
 use Rattle.std.specs.Result.{is_err}
 use Rattle.std.specs.Str.{bytes_eq}
-use Rattle.std.specs.Fmt.{decimal}
-use Rattle.label_core.specs.Element.{dom}
 use Rattle.sys_types.specs.declared.limits.TheConstants.{DESCRIPTORS}
 use Rattle.sys_types.specs.declared.image.Image.{Image}
 use Rattle.sys_types.specs.declared.image.Image.TheVariants as images
 use Rattle.sys_types.specs.declared.rules.Rule.{Rule}
 use Rattle.sys_types.specs.declared.rules.Rule.TheVariants as rule
-use Rattle.sys_types.specs.Images.{image_name}
 use Rattle.sys_types.specs.Images.{images as programs}
 use Rattle.call_words.specs.declared.event.How.{How}
 use Rattle.call_words.specs.declared.event.How.TheVariants as how
 use Rattle.call_words.specs.declared.event.Reason.TheVariants as reason
 use Rattle.call_words.specs.declared.proc.WaitFlags.{WaitFlags}
-use Rattle.call_words.specs.declared.signal.Action.{Action}
-use Rattle.call_words.specs.declared.signal.Action.TheVariants as action
 use Rattle.access_rule.specs.Access.{is_superuser}
 use Rattle.fd_table.specs.Shared.{Table, row_of, is_on_exec, descriptor_at}
 use Rattle.tree_model.specs.Tree.{NodeRecord, is_file}
 use Rattle.tree_model.specs.Listing.{names_text}
 use Rattle.tree_model.specs.Standard.{image_text}
-use Rattle.proc_table.specs.Processes.{Process, Actions, is_running, is_stopped, running_by_pid, slot_of, pending_at, has_member, has_member_in, processes}
+use Rattle.proc_table.specs.Processes.{Process, slot_of, has_member}
+use Rattle.proc_table.specs.Changes.{begin, lead_session, with_group, exec_process}
+use Rattle.proc_table.specs.Jobs.{setpgid_target, group_for, is_no_group}
+use Rattle.proc_table.specs.Kills.{processes_seen}
+use Rattle.proc_table.specs.Listing.{process_text}
 use Rattle.proc_table.specs.Forks.{lowest_slot}
 use Rattle.proc_table.specs.Reaping.{reap}
 use Rattle.system_model.specs.Parts.{Path}
@@ -41,7 +40,7 @@ use Rattle.system_model.specs.Looks.{caller_of, on_node, node_at, access_check}
 abbrev pub begin_row : View → ℕ → Row
 begin_row v slot = record {
   checks = deny (caller_of v slot).begun rule.Begun ∷ [];
-  effects = on_processes (set_process slot (record (caller_of v slot) { begun = true })) ∷ [];
+  effects = on_processes (set_process slot (begin (caller_of v slot))) ∷ [];
   answer = image (caller_of v slot).image (caller_of v slot).args;
 }
 
@@ -56,21 +55,6 @@ image_in known contents = find (λ i. bytes_eq (image_text i) contents) known
 abbrev pub image_of : Option NodeRecord → Option Image
 image_of None = None
 image_of (Some what) = image_in programs what.contents
-
--- caught signals do again what they do by default, and those that are pending go
-abbrev pub reset_action : Action → Action
-reset_action action.Normal = action.Normal
-reset_action action.Ignore = action.Ignore
-reset_action action.Catch = action.Normal
-
-abbrev pub exec_process : Process Path → Image → List ℕ → Process Path
-exec_process who program args = record who {
-  image = program;
-  args = args;
-  actions = map reset_action who.actions;
-  caught = 0;
-  execed = true;
-}
 
 -- the numbers of a slot that are closed on exec, in rising order
 abbrev pub is_marked : Table → ℕ → ℕ → Bool
@@ -144,24 +128,9 @@ wait_row v slot pid flags =
 abbrev pub setsid_row : View → ℕ → Row
 setsid_row v slot = record {
   checks = deny (has_member v.processes (caller_of v slot).pid) rule.Leader ∷ [];
-  effects = on_processes (set_process slot (record (caller_of v slot) { session = (caller_of v slot).pid; group = (caller_of v slot).pid })) ∷ [];
+  effects = on_processes (set_process slot (lead_session (caller_of v slot))) ∷ [];
   answer = number (caller_of v slot).pid;
 }
-
--- the caller, or its running child, that a pid names, of which 0 is the caller's
-abbrev pub is_target : Process Path → Process Path → Bool
-is_target who p = p.pid == who.pid || p.parent == who.pid
-
-abbrev pub setpgid_target : View → Process Path → ℕ → Option (Process Path)
-setpgid_target v who pid =
-    option_and_then (λ p. if is_target who p then Some p else None) (running_by_pid v.processes (if pid == 0 then who.pid else pid))
-
--- a group of a number, of which 0 is the target's pid
-abbrev pub group_for : Process Path → ℕ → ℕ
-group_for target group = if group == 0 then target.pid else group
-
-abbrev pub is_no_group : View → Process Path → ℕ → Bool
-is_no_group v target group = not (group == target.pid) && not (has_member_in v.processes group target.session)
 
 abbrev pub setpgid_on : View → ℕ → ℕ → Option (Process Path) → Row
 setpgid_on v slot group None = record { checks = deny true rule.NoProcess ∷ []; effects = []; answer = number 0 }
@@ -169,33 +138,20 @@ setpgid_on v slot group (Some target) = record {
   checks = deny (not (target.pid == (caller_of v slot).pid) && target.execed) rule.ChildExec
       ∷ deny (target.pid == target.session) rule.Leader
       ∷ deny (not (target.session == (caller_of v slot).session)) rule.Session
-      ∷ deny (is_no_group v target (group_for target group)) rule.Group
+      ∷ deny (is_no_group v.processes target (group_for target group)) rule.Group
       ∷ [];
-  effects = on_processes (set_process (unwrap_or (slot_of v.processes target.pid) slot) (record target { group = group_for target group })) ∷ [];
+  effects = on_processes (set_process (unwrap_or (slot_of v.processes target.pid) slot) (with_group (group_for target group) target)) ∷ [];
   answer = number 0;
 }
 
 abbrev pub setpgid_row : View → ℕ → ℕ → ℕ → Row
-setpgid_row v slot pid group = setpgid_on v slot group (setpgid_target v (caller_of v slot) pid)
+setpgid_row v slot pid group = setpgid_on v slot group (setpgid_target v.processes (caller_of v slot) pid)
 
 -- ---- ps(1), reboot(2)
 
--- what a process does, by the later of the words that hold
-abbrev pub state_word : View → ℕ × Process Path → List ℕ
-state_word v entry =
-    if not (is_running entry.1) then codes "zombie"
-    else (if is_stopped entry.1 then codes "stop"
-    else (if is_some (pending_at v.processes entry.0) then codes "sleep"
-    else codes "run"))
-
-abbrev pub process_text : View → ℕ × Process Path → List ℕ
-process_text v entry =
-    decimal entry.1.pid ++ codes ":" ++ decimal entry.1.parent ++ codes ":" ++ decimal entry.1.group ++ codes ":" ++ decimal entry.1.session
-    ++ codes ":" ++ decimal entry.1.cred.uid ++ codes ":" ++ state_word v entry ++ codes ":" ++ image_name entry.1.image
-
 -- the processes that the caller's active element dominates, as many as fit
 unfoldable pub ps_text : View → Process Path → List ℕ
-ps_text v who = names_text (map (process_text v) (filter (λ entry. dom who.label.active entry.1.label.active) (processes v.processes))) 0
+ps_text v who = names_text (map (process_text v.processes) (processes_seen v.processes who)) 0
 
 abbrev pub ps_row : View → ℕ → Row
 ps_row v slot = only (text (ps_text v (caller_of v slot)))

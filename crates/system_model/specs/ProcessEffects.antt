@@ -28,7 +28,7 @@ pub data ProcessEffect : Type 0 where
   post : Sig → To → ProcessEffect
   -- a process is to be ended
   add_ending : ℕ → How → ProcessEffect
-  -- a process ends
+  -- a process ends, and lets its working directory go
   bury : ℕ → How → ProcessEffect
   -- all that were to be ended were ended
   clear_ending : ProcessEffect
@@ -44,5 +44,5 @@ change_processes m (set_pending slot call) = record m { processes = table.set_pe
 change_processes m (tell slot) = record m { processes = table.tell m.processes slot }
 change_processes m (post sig to) = after_post m (posts.post m.processes sig to m.ending)
 change_processes m (add_ending slot how) = record m { ending = posts.add_ending m.ending slot how }
-change_processes m (bury slot how) = after_post m (endings.bury m.processes slot how m.ending)
+change_processes m (bury slot how) = after_post m (endings.bury_in [] m.processes slot how m.ending)
 change_processes m clear_ending = record m { ending = [] }

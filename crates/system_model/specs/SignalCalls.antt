@@ -1,19 +1,18 @@
 -- The rows of the calls on signals: kill(2), sigaction(2), sigwait(2), pause(3).
 use Rattle.std.specs.Prelude.{ℕ, Bool, true, false, not, ◌&&◌, ◌||◌, ◌==◌, List, [], ◌∷◌, map, filter, filter_map, length, Option, Some, None, is_none}
 use Rattle.std.specs.Prelude.{if◌then◌else◌}
-use Rattle.label_core.specs.Element.{dom}
 use Rattle.sys_types.specs.declared.sig.Sig.{Sig}
 use Rattle.sys_types.specs.declared.sig.Sig.TheVariants as sig
 use Rattle.sys_types.specs.Signals.{sig_number}
-use Rattle.sys_types.specs.declared.rules.Rule.{Rule}
-use Rattle.sys_types.specs.declared.rules.Rule.TheVariants.{NoProcess, LabelWrite, SigOwner, SigFixed}
+use Rattle.sys_types.specs.declared.rules.Rule.TheVariants.{SigFixed}
 use Rattle.call_words.specs.declared.event.Reason.TheVariants as reason
 use Rattle.call_words.specs.declared.signal.Action.{Action}
 use Rattle.call_words.specs.declared.signal.To.{To}
 use Rattle.call_words.specs.declared.signal.To.TheVariants.{Pid}
-use Rattle.access_rule.specs.Access.{is_superuser}
-use Rattle.proc_table.specs.Processes.{Process, set_action, drop_caught, least_caught, running}
-use Rattle.proc_table.specs.Posts.{is_fixed, is_to}
+use Rattle.proc_table.specs.Processes.{Process, drop_caught, least_caught}
+use Rattle.proc_table.specs.Changes.{act_on}
+use Rattle.proc_table.specs.Posts.{is_fixed}
+use Rattle.proc_table.specs.Kills.{targets, receivers, kill_refusal}
 use Rattle.system_model.specs.Parts.{Path}
 use Rattle.system_model.specs.State.{View}
 use Rattle.system_model.specs.ProcessEffects.{set_process, post}
@@ -23,45 +22,17 @@ use Rattle.system_model.specs.Looks.{caller_of}
 
 -- ---- kill(2): each process that the number or the group names is tried by the rules
 
--- the caller sees a process where its active element dominates that of the process (mac_mls(4))
-abbrev pub is_seen : Process Path → Process Path → Bool
-is_seen who p = dom who.label.active p.label.active
-
--- the rule by which the caller may not signal a process that it sees
-abbrev pub kill_rule : Process Path → Process Path → Option Rule
-kill_rule who p =
-    if not (dom p.label.active who.label.active) then Some LabelWrite
-    else (if not (p.cred.uid == who.cred.uid) && not (is_superuser who.cred) then Some SigOwner
-    else None)
-
--- the running processes that are named and that the caller sees, by rising pid
-abbrev pub targets : View → Process Path → To → List (Process Path)
-targets v who to = filter (λ p. is_to to p && is_seen who p) (map (λ (e : ℕ × Process Path). e.1) (running v.processes))
-
--- those that the caller may signal
-abbrev pub receivers : Process Path → List (Process Path) → List (Process Path)
-receivers who seen = filter (λ p. is_none (kill_rule who p)) seen
-
--- nobody is seen; or nobody that is seen may be signalled, by the rule for the first of them
-abbrev pub kill_refusal : Process Path → List (Process Path) → Option Rule
-kill_refusal who [] = Some NoProcess
-kill_refusal who (p ∷ more) = if length (receivers who (p ∷ more)) == 0 then kill_rule who p else None
-
 abbrev pub post_each : Sig → List (Process Path) → List Effect
 post_each signal whom = map (λ p. on_processes (post signal (Pid p.pid))) whom
 
 abbrev pub kill_row : View → ℕ → To → Sig → Row
 kill_row v slot to signal = record {
-  checks = deny_by (kill_refusal (caller_of v slot) (targets v (caller_of v slot) to)) ∷ [];
-  effects = post_each signal (receivers (caller_of v slot) (targets v (caller_of v slot) to));
+  checks = deny_by (kill_refusal (caller_of v slot) (targets v.processes (caller_of v slot) to)) ∷ [];
+  effects = post_each signal (receivers (caller_of v slot) (targets v.processes (caller_of v slot) to));
   answer = number 0;
 }
 
 -- ---- sigaction(2), sigwait(2), pause(3)
-
--- a signal of this number that is pending goes
-abbrev pub act_on : Sig → Action → Process Path → Process Path
-act_on signal action who = drop_caught signal (record who { actions = set_action who.actions signal action })
 
 abbrev pub sigset_row : View → ℕ → Sig → Action → Row
 sigset_row v slot signal action = record {

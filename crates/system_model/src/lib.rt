@@ -1,7 +1,16 @@
 //! The whole sequential machine, as definitions that the contracts of the kernel and of the top calls cite.
 //!
-//! `specs/` has four layers: the state (open files named by the position of their event, bytes with the position of the event
+//! `specs/` has three layers: the state (open files named by the position of their event, bytes with the position of the event
 //! that brought them) and the view (what calls can see of a state), as two readings of the same parts; the effects, by what they
-//! change; the rows (for each event its ordered lines, its effects and its answer); and the laws of a run. `proofs/` shows that
-//! the view steps as the state does, and that the laws hold of every run.
+//! change; and the rows (for each event its ordered checks, its effects and its answer). Beside them stand the tables of a kernel,
+//! what calls see of them, and when they fit together; `proofs/` shows what each change of a table makes of what calls see.
+//!
+//! What all calls share stands here too, since no chain of crates is longer than eight: the process that asks, and the close of a
+//! descriptor.
 #![tactic(auto)]
+
+mod callers;
+mod closing;
+
+pub use callers::caller;
+pub use closing::{close_fd, release};

@@ -9,7 +9,7 @@ use Rattle.line_disc.specs.Device.{Device, closed_device, close_last, map_device
 use Rattle.line_disc.proofs.DeviceMapLemmas as device
 use Rattle.system_model.specs.Parts.{Target, node, read_end, write_end, tty, File, Parts, map_parts}
 use Rattle.system_model.specs.State.{Revokes, NamedFile, Tagged, OpenFile, View, last_revoke, is_revoked, seen_file, byte_of}
-use Rattle.system_model.specs.Lines.{line_at, change_line}
+use Rattle.line_disc.specs.Lines.{line_at, change_line}
 use Rattle.system_model.specs.Keeping.{Keeping, tagging, seeing, is_end_of, is_live_of}
 use Rattle.system_model.specs.FileEffects.{FileEffect, open_file, copy_fd, close_fd, fork_fds, set_offset, release_pipe, release_line, release_target, release}
 use Rattle.system_model.specs.FileEffects.{at_offset, change_files}

@@ -18,6 +18,7 @@ use Rattle.sys_types.specs.declared.node.Kind.TheVariants as kind
 use Rattle.call_words.specs.declared.open.Access.{Access}
 use Rattle.call_words.specs.declared.open.OpenFlags.{OpenFlags}
 use Rattle.tree_model.specs.Tree.{NodeRecord, WalkEnd, found, absent, missing, not_dir, name_long, path_long}
+use Rattle.proc_table.specs.Jobs.{setpgid_target}
 use Rattle.system_model.specs.Parts.{Path, File, Target, node, read_end, write_end, tty}
 use Rattle.system_model.specs.State.{OpenFile, View}
 use Rattle.system_model.specs.FileEffects.{FileEffect, open_file, copy_fd, close_fd, fork_fds, set_offset}
@@ -42,7 +43,7 @@ use Rattle.system_model.specs.TtyCalls as ttys
 use Rattle.system_model.specs.LineEvents as events
 use Rattle.system_model.specs.Endings.{close_all, leave_line, leave_session, end_one, end_next, endings, endings_of}
 use Rattle.system_model.specs.Step.{call_row}
-use Rattle.system_model.specs.Laws.{is_revoke_of}
+use Rattle.system_laws.specs.Laws.{is_revoke_of}
 
 -- no effect revokes the line
 pub data NoRevoke (n : ℕ) : List Effect → Type 0 where
@@ -250,7 +251,7 @@ rev_call n v slot (call.Exec path args) other = search unrevoked
 rev_call n v slot (call.Exit status) other = search unrevoked
 rev_call n v slot (call.Wait pid flags) other = search unrevoked
 rev_call n v slot call.SetSid other = search unrevoked
-rev_call n v slot (call.SetPgid pid group) other = rev_setpgid n v slot group (procs.setpgid_target v (caller_of v slot) pid)
+rev_call n v slot (call.SetPgid pid group) other = rev_setpgid n v slot group (setpgid_target v.processes (caller_of v slot) pid)
 rev_call n v slot call.Ps other = no_effect
 rev_call n v slot call.Halt other = search unrevoked
 rev_call n v slot (call.Kill to signal) other = search unrevoked

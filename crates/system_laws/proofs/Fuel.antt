@@ -11,10 +11,10 @@ use Rattle.fd_table.specs.Shared.{descriptor_at, drop_number, last_file, count_f
 use Rattle.pipe_core.specs.Pipes.{remove}
 use Rattle.line_disc.specs.Device.{close_last}
 use Rattle.proc_table.specs.Processes.{Process}
-use Rattle.proc_table.proofs.SoundLemmas.{IsSound, sound_post, sound_bury, sound_most}
+use Rattle.proc_table.proofs.SoundLemmas.{IsSound, sound_post, sound_bury_in, sound_most}
 use Rattle.system_model.specs.Parts.{Path, Target, node, read_end, write_end, tty}
 use Rattle.system_model.specs.State.{OpenFile, View}
-use Rattle.system_model.specs.Lines.{change_line}
+use Rattle.line_disc.specs.Lines.{change_line}
 use Rattle.system_model.specs.Keeping.{seeing, is_end_of, is_live_of}
 use Rattle.system_model.specs.FileEffects.{close_fd, release_pipe, release_line, release_target, release, change_files}
 use Rattle.system_model.specs.LineEffects.{revoke_line, change_lines}
@@ -23,7 +23,7 @@ use Rattle.system_model.specs.Effects.{Effect, on_files, on_lines, on_processes,
 use Rattle.system_model.specs.ProcCalls.{close_fds}
 use Rattle.system_model.specs.Looks.{caller_of, line_of_session}
 use Rattle.system_model.specs.Endings.{close_all, leave_line, leave_session, end_one, end_next, endings}
-use Rattle.system_model.proofs.Runs.{change_more}
+use Rattle.system_laws.proofs.Runs.{change_more}
 
 -- the slots and the list of those to be ended are as they should be
 abbrev pub IsSoundView : View → Type 0
@@ -66,7 +66,7 @@ sound-post v signal whom sound = sound_post v.processes signal whom v.ending sou
 
 sound-bury : (v : View) (slot : ℕ) (why : How) → IsSoundView v → IsSoundView (change v (on_processes (bury slot why)))
 unfolding change_processes
-sound-bury v slot why sound = sound_bury v.processes slot why v.ending sound
+sound-bury v slot why sound = sound_bury_in [] v.processes slot why v.ending sound
 
 sound-revoke : (v : View) (n : ℕ) → IsSoundView v → IsSoundView (change v (on_lines (revoke_line n)))
 unfolding change_lines

@@ -22,8 +22,8 @@ use Rattle.system_model.specs.Rows.{decision, behind, also, ended_by}
 use Rattle.system_model.specs.Looks.{caller_of, file_at, holds_of}
 use Rattle.system_model.specs.IoCalls.{may_not_read, may_not_write, read_at, read_target, write_at, write_target}
 use Rattle.system_model.specs.Step.{call_row, run_row, begin_sleeps, gone_row, enter_row, retry_row, again_row, is_begin_pending, row, answer_to}
-use Rattle.system_model.specs.Laws.{asks_call, MayRead, MayWrite, ObeysLabels}
-use Rattle.system_model.proofs.Revocations.{first-map}
+use Rattle.system_laws.specs.Laws.{asks_call, MayRead, MayWrite, ObeysLabels}
+use Rattle.system_laws.proofs.Revocations.{first-map}
 
 -- an answer that only a call's own row gives: bytes, or a number
 abbrev pub is_own : Decision → Bool

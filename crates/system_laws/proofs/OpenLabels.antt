@@ -24,8 +24,8 @@ use Rattle.system_model.specs.Rows.{Given, number, Check, Row, deny, deny_by, be
 use Rattle.system_model.specs.Looks.{caller_of, path_check, end_of, node_at, access_check, dominates_node, node_dominates, tty_path}
 use Rattle.system_model.specs.OpenCalls.{flags_clash, open_at, place_checks, kind_checks, own_tty_checks, own_tty, tty_checks, room_check}
 use Rattle.system_model.specs.Step.{call_row}
-use Rattle.system_model.specs.Laws.{asks_call, MayOpen, OpensByLabels}
-use Rattle.system_model.proofs.Labels.{own-answer}
+use Rattle.system_laws.specs.Laws.{asks_call, MayOpen, OpensByLabels}
+use Rattle.system_laws.proofs.Labels.{own-answer}
 
 -- where no rule refuses an access, labels allow it
 allowed : (read write : Bool) (over under : Bool) (rest : List (Option Rule))

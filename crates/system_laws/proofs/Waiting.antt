@@ -10,8 +10,8 @@ use Rattle.system_model.specs.Effects.{Effect, change_all}
 use Rattle.system_model.specs.Rows.{refused, early, asleep, Check, first, effects_by, decision_by}
 use Rattle.system_model.specs.Endings.{endings_of}
 use Rattle.system_model.specs.Step.{row, answer_to, view_after, is_idle_check, reason_of_check, waits, is_idle}
-use Rattle.system_model.specs.Laws.{IsIdleTry, Waits}
-use Rattle.system_model.proofs.Runs.{no-endings}
+use Rattle.system_laws.specs.Laws.{IsIdleTry, Waits}
+use Rattle.system_laws.proofs.Runs.{no-endings}
 
 -- the check of an idle try
 idle-check : (o : Option Check) → is_idle_check o ≡ true → (reason : Reason) × (o ≡ Some (asleep reason, []))

@@ -18,6 +18,7 @@ use Rattle.sys_types.specs.declared.node.Kind.TheVariants as kind
 use Rattle.call_words.specs.declared.open.Access.{Access}
 use Rattle.call_words.specs.declared.open.OpenFlags.{OpenFlags}
 use Rattle.tree_model.specs.Tree.{NodeRecord, WalkEnd, found, absent, missing, not_dir, name_long, path_long}
+use Rattle.proc_table.specs.Jobs.{setpgid_target}
 use Rattle.system_model.specs.Parts.{Path, File, Target, node, read_end, write_end, tty}
 use Rattle.system_model.specs.State.{OpenFile, View}
 use Rattle.system_model.specs.FileEffects.{FileEffect, open_file, copy_fd, close_fd, fork_fds, set_offset}
@@ -40,7 +41,7 @@ use Rattle.system_model.specs.TtyCalls as ttys
 use Rattle.system_model.specs.LineEvents as events
 use Rattle.system_model.specs.Endings.{close_all, leave_line, leave_session, end_one, end_next, endings, endings_of}
 use Rattle.system_model.specs.Step.{call_row}
-use Rattle.system_model.proofs.LineSteps.{is_calm_line}
+use Rattle.system_laws.proofs.LineSteps.{is_calm_line}
 
 abbrev pub file_opens : FileEffect → Bool
 file_opens (open_file slot file on_exec) = true
@@ -300,7 +301,7 @@ ordered_call v slot (call.Exec path args) = inl (search unopened)
 ordered_call v slot (call.Exit status) = inl (search unopened)
 ordered_call v slot (call.Wait pid flags) = inl (search unopened)
 ordered_call v slot call.SetSid = inl (search unopened)
-ordered_call v slot (call.SetPgid pid group) = inl (open_setpgid v slot group (procs.setpgid_target v (caller_of v slot) pid))
+ordered_call v slot (call.SetPgid pid group) = inl (open_setpgid v slot group (setpgid_target v.processes (caller_of v slot) pid))
 ordered_call v slot call.Ps = inl (no_effect)
 ordered_call v slot call.Halt = inl (search unopened)
 ordered_call v slot (call.Kill to signal) = inl (search unopened)

@@ -10,7 +10,7 @@ use Rattle.system_model.specs.Parts.{Target, node, read_end, write_end, tty, Par
 use Rattle.fd_table.specs.Shared.{drop_number, last_file, count_files}
 use Rattle.pipe_core.specs.Pipes.{remove}
 use Rattle.line_disc.specs.Device.{close_last}
-use Rattle.system_model.specs.Lines.{change_line}
+use Rattle.line_disc.specs.Lines.{change_line}
 use Rattle.system_model.specs.Keeping.{seeing, is_end_of, is_live_of}
 use Rattle.system_model.specs.FileEffects.{FileEffect, open_file, copy_fd, close_fd, fork_fds, set_offset, release_pipe, release_line, release_target, release}
 use Rattle.system_model.specs.FileEffects.{change_files}
@@ -24,12 +24,12 @@ use Rattle.system_model.specs.Effects.{Effect, on_files, on_pipes, on_lines, on_
 use Rattle.system_model.specs.Rows.{done}
 use Rattle.system_model.specs.Endings.{endings, endings_of}
 use Rattle.system_model.specs.Step.{row, effects_of, view_after, step}
-use Rattle.system_model.specs.Stands.{IsEarlier, AreEarlier, Within, Stands}
-use Rattle.system_model.proofs.FileSteps.{NoneLater}
-use Rattle.system_model.proofs.Openings.{opens_file, is_calm, is_calm_process, NoOpen, no_effect, next_effect, Calm, calm_end, calm_next, calm-append, Ordered}
-use Rattle.system_model.proofs.Openings.{open-append, open_endings_of}
-use Rattle.system_model.proofs.EventOpenings.{ordered_row, ordered_done}
-use Rattle.system_model.proofs.SeenSteps.{view_tag, later_tag, earlier_tag}
+use Rattle.system_laws.specs.Stands.{IsEarlier, AreEarlier, Within, Stands}
+use Rattle.system_laws.proofs.FileSteps.{NoneLater}
+use Rattle.system_laws.proofs.Openings.{opens_file, is_calm, is_calm_process, NoOpen, no_effect, next_effect, Calm, calm_end, calm_next, calm-append, Ordered}
+use Rattle.system_laws.proofs.Openings.{open-append, open_endings_of}
+use Rattle.system_laws.proofs.EventOpenings.{ordered_row, ordered_done}
+use Rattle.system_laws.proofs.SeenSteps.{view_tag, later_tag, earlier_tag}
 
 -- ---- lists of effects
 

@@ -13,8 +13,8 @@ use Rattle.system_model.specs.Effects.{Effect}
 use Rattle.system_model.specs.Rows.{Given, number, pair, child, image, bytes, text, gone, taken, noted, refused, early, asleep, Check, Row, answer_of}
 use Rattle.system_model.specs.Rows.{decision_by, effects_by, first, done, decision}
 use Rattle.system_model.specs.Step.{row, answer_to, step}
-use Rattle.system_model.specs.Laws.{may_still_do, Refuses}
-use Rattle.system_model.proofs.Refusals.{careful}
+use Rattle.system_laws.specs.Laws.{may_still_do, Refuses}
+use Rattle.system_laws.proofs.Refusals.{careful}
 
 -- an answer that is given is no denial and no sleep
 given-denied : (g : Given) (rule : Rule) → answer_of g ≡ Answer (Denied rule) → ⊥

@@ -19,10 +19,10 @@ use Rattle.system_model.specs.Rows.{noted, gone, Outcome, refused, early, asleep
 use Rattle.system_model.specs.Looks.{line_of}
 use Rattle.system_model.specs.LineEvents as events
 use Rattle.system_model.specs.Step.{call_row, run_row, tell_if_left, begin_sleeps, gone_row, enter_row, retry_row, again_row, is_begin_pending, event_row, row}
-use Rattle.system_model.specs.Laws.{may_still_do}
-use Rattle.system_model.proofs.Refusals.{AreQuiet, next_check, no_check, IsQuiet, where_none, where_some, all-both, quiet-none, quiet_call}
-use Rattle.system_model.proofs.Openings.{opens_file, NoOpen, no_effect, next_effect, open-append, open-process, open-if, open-halt, open-line, Calm, calm_end}
-use Rattle.system_model.proofs.Openings.{calm_next, calm-append, Ordered, ordered_call}
+use Rattle.system_laws.specs.Laws.{may_still_do}
+use Rattle.system_laws.proofs.Refusals.{AreQuiet, next_check, no_check, IsQuiet, where_none, where_some, all-both, quiet-none, quiet_call}
+use Rattle.system_laws.proofs.Openings.{opens_file, NoOpen, no_effect, next_effect, open-append, open-process, open-if, open-halt, open-line, Calm, calm_end}
+use Rattle.system_laws.proofs.Openings.{calm_next, calm-append, Ordered, ordered_call}
 
 -- ---- checks
 

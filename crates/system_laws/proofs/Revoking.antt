@@ -5,7 +5,7 @@ use Rattle.std.specs.List.{list_all, list_any}
 use Rattle.system_model.specs.State.{State, View, Revokes, last_revoke, view}
 use Rattle.system_model.specs.LineEffects.{LineEffect, open_line, receive_byte, read_line, write_line, take_output, set_carrier, end_line, revoke_line}
 use Rattle.system_model.specs.LineEffects.{flush_line, retune_line, set_session, set_foreground, revokes_after}
-use Rattle.system_model.specs.Laws.{line_revokes, is_revoke_of}
+use Rattle.system_laws.specs.Laws.{line_revokes, is_revoke_of}
 use Rattle.system_model.specs.Effects.{Effect, on_files, on_pipes, on_lines, on_tree, on_processes, halt, tag, tag_all}
 
 line-mark : (revokes : Revokes) (p n : ℕ) (e : LineEffect)

@@ -20,6 +20,7 @@ use Rattle.call_words.specs.declared.event.Reason.{Reason}
 use Rattle.call_words.specs.declared.event.Reason.TheVariants as reason
 use Rattle.proc_table.specs.Processes.{Process, least_caught, is_stopped, running_at, pending_at}
 use Rattle.proc_table.specs.Forks.{is_begin}
+use Rattle.proc_table.specs.Jobs.{setpgid_target}
 use Rattle.system_model.specs.Parts.{Path, File, Target, node, read_end, write_end, tty}
 use Rattle.system_model.specs.State.{OpenFile, View}
 use Rattle.system_model.specs.ProcessEffects.{post, set_pending}
@@ -39,7 +40,7 @@ use Rattle.system_model.specs.TtyCalls as ttys
 use Rattle.system_model.specs.Looks.{on_node, caller_of, termios_of, line_of}
 use Rattle.system_model.specs.LineEvents.{byte_row, carrier_row, take_row, end_row}
 use Rattle.system_model.specs.Step.{call_row, run_row, begin_sleeps, gone_row, enter_row, retry_row, again_row, is_begin_pending, event_row, row}
-use Rattle.system_model.specs.Laws.{may_still_do}
+use Rattle.system_laws.specs.Laws.{may_still_do}
 
 -- a check, where it holds, does nothing but what a denied event may still do
 pub data IsQuiet : Option Check → Type 0 where
@@ -201,7 +202,7 @@ quiet_call v slot (call.Exec path args) = quiet_on_node v slot path (procs.exec_
 quiet_call v slot (call.Exit status) = search quiet
 quiet_call v slot (call.Wait pid flags) = search quiet
 quiet_call v slot call.SetSid = search quiet
-quiet_call v slot (call.SetPgid pid group) = quiet_setpgid v slot group (procs.setpgid_target v (caller_of v slot) pid)
+quiet_call v slot (call.SetPgid pid group) = quiet_setpgid v slot group (setpgid_target v.processes (caller_of v slot) pid)
 quiet_call v slot call.Ps = no_check
 quiet_call v slot call.Halt = search quiet
 quiet_call v slot (call.Kill to signal) = search quiet

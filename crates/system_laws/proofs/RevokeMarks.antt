@@ -40,15 +40,15 @@ use Rattle.system_model.specs.LineEvents as events
 use Rattle.system_model.specs.Endings.{close_all, leave_line, leave_session, end_one, end_next, endings, endings_of}
 use Rattle.system_model.specs.Step.{call_row, run_row, tell_if_left, begin_sleeps, gone_row, enter_row, retry_row, again_row, is_begin_pending, event_row, row}
 use Rattle.system_model.specs.Step.{answer_to, effects_of}
-use Rattle.system_model.specs.Laws.{may_still_do, asks_call, CanRun, is_revoke_of, revokes_line, before_ending, IsRevokedBy, by_call, by_end, MarksRevokes}
-use Rattle.system_model.proofs.Refusals.{AreQuiet, all-both, first-quiet, quiet_call, next_check, no_check, quiet-none}
-use Rattle.system_model.proofs.Revocations.{first-map, entered, retried}
-use Rattle.system_model.proofs.NoRevokes.{NoRevoke, no_effect, next_effect, rev-append, rev-if, rev-process, rev-halt, rev-receive, rev-carrier, rev-take}
-use Rattle.system_model.proofs.NoRevokes.{rev-ends, is_revoke_call, rev_call}
-use Rattle.system_model.proofs.Revoking.{all_mark}
-use Rattle.system_model.proofs.Runs.{change_more}
-use Rattle.system_model.proofs.Labels.{is_own, own-gone, own-behind, own-ended, own-answer}
-use Rattle.system_model.proofs.Fuel.{endings-parts}
+use Rattle.system_laws.specs.Laws.{may_still_do, asks_call, CanRun, is_revoke_of, revokes_line, before_ending, IsRevokedBy, by_call, by_end, MarksRevokes}
+use Rattle.system_laws.proofs.Refusals.{AreQuiet, all-both, first-quiet, quiet_call, next_check, no_check, quiet-none}
+use Rattle.system_laws.proofs.Revocations.{first-map, entered, retried}
+use Rattle.system_laws.proofs.NoRevokes.{NoRevoke, no_effect, next_effect, rev-append, rev-if, rev-process, rev-halt, rev-receive, rev-carrier, rev-take}
+use Rattle.system_laws.proofs.NoRevokes.{rev-ends, is_revoke_call, rev_call}
+use Rattle.system_laws.proofs.Revoking.{all_mark}
+use Rattle.system_laws.proofs.Runs.{change_more}
+use Rattle.system_laws.proofs.Labels.{is_own, own-gone, own-behind, own-ended, own-answer}
+use Rattle.system_laws.proofs.Fuel.{endings-parts}
 
 -- ---- lists of effects
 

@@ -7,12 +7,12 @@ use Rattle.line_disc.specs.Device.{Device, map_device}
 use Rattle.line_disc.proofs.DeviceMapLemmas as lemmas
 use Rattle.system_model.specs.Parts.{Target, node, read_end, write_end, tty, File, Parts}
 use Rattle.system_model.specs.State.{Revokes, NamedFile, Tagged, OpenFile, last_revoke, is_revoked, seen_file, byte_of}
-use Rattle.system_model.specs.Lines.{line_at, change_line}
+use Rattle.line_disc.specs.Lines.{line_at, change_line}
 use Rattle.system_model.specs.Keeping.{tagging, seeing, is_tty, mark_dead}
 use Rattle.system_model.specs.LineEffects.{LineEffect, open_line, receive_byte, read_line, write_line, take_output, set_carrier, end_line, revoke_line}
 use Rattle.system_model.specs.LineEffects.{flush_line, retune_line, set_session, set_foreground, change_lines, revokes_after}
-use Rattle.system_model.specs.Stands.{IsEarlier, AreEarlier}
-use Rattle.system_model.proofs.FileSteps.{seen, change_line-map}
+use Rattle.system_laws.specs.Stands.{IsEarlier, AreEarlier}
+use Rattle.system_laws.proofs.FileSteps.{seen, change_line-map}
 
 -- a line is changed in the same way, and the rest is left
 changes : (revokes : Revokes) (m : Parts NamedFile Tagged) (n : ℕ) (how : Device Tagged → Device Tagged) (also : Device ℕ → Device ℕ)

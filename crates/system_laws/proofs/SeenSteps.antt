@@ -7,21 +7,21 @@ use Rattle.fd_table.specs.declared.open.Descriptor.{Descriptor}
 use Rattle.fd_table.specs.Shared.{Table, entry_at, descriptor_at, references, lowest_entry, files_after, change_in, drop_number, last_file, count_files}
 use Rattle.pipe_core.specs.Pipes.{remove}
 use Rattle.line_disc.specs.Device.{close_last}
-use Rattle.system_model.specs.Lines.{change_line}
+use Rattle.line_disc.specs.Lines.{change_line}
 use Rattle.system_model.specs.Keeping.{tagging, is_end_of, is_live_of}
 use Rattle.system_model.specs.FileEffects.{FileEffect, open_file, copy_fd, close_fd, fork_fds, set_offset, release_pipe, release_line, release_target, release}
 use Rattle.system_model.specs.FileEffects.{at_offset, change_files}
 use Rattle.system_model.specs.PipeEffects.{PipeEffect, add_pipe, put_pipe, take_pipe, change_pipes}
 use Rattle.system_model.specs.LineEffects.{LineEffect, open_line, receive_byte, read_line, write_line, take_output, set_carrier, end_line, revoke_line}
 use Rattle.system_model.specs.LineEffects.{flush_line, retune_line, set_session, set_foreground, change_lines, revokes_after}
-use Rattle.system_model.specs.Stands.{IsEarlier, AreEarlier}
+use Rattle.system_laws.specs.Stands.{IsEarlier, AreEarlier}
 use Rattle.system_model.specs.TreeEffects.{set_node, change_tree}
 use Rattle.system_model.specs.ProcessEffects.{ProcessEffect, set_process, fork_process, reap_child, set_pending, tell, post, add_ending, bury, clear_ending}
 use Rattle.system_model.specs.ProcessEffects.{change_processes}
 use Rattle.system_model.specs.Effects.{Effect, on_files, on_pipes, on_lines, on_tree, on_processes, halt, change, tag}
-use Rattle.system_model.proofs.FileSteps.{seen, NoneLater, files_step, pipes_step}
-use Rattle.system_model.proofs.LineSteps.{lines_step}
-use Rattle.system_model.proofs.Openings.{file_opens, opens_file, is_calm}
+use Rattle.system_laws.proofs.FileSteps.{seen, NoneLater, files_step, pipes_step}
+use Rattle.system_laws.proofs.LineSteps.{lines_step}
+use Rattle.system_laws.proofs.Openings.{file_opens, opens_file, is_calm}
 
 -- processes have no tags
 processes_step : (p : ℕ) (revokes : Revokes) (m : Parts NamedFile Tagged) (e : ProcessEffect)

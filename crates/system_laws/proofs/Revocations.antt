@@ -18,7 +18,7 @@ use Rattle.system_model.specs.Rows.{Given, bytes, gone, Outcome, refused, early,
 use Rattle.system_model.specs.Rows.{decision, done, also, ended_by}
 use Rattle.system_model.specs.Looks.{file_at, holds_of}
 use Rattle.system_model.specs.Step.{call_row, run_row, enter_row, retry_row, again_row, row, answer_to, is_idle_check, is_idle, can_go_on}
-use Rattle.system_model.specs.Laws.{IsDeadAnswer, fd_of, is_dead_at, asks_call, CanRun, may_still_do, Revokes}
+use Rattle.system_laws.specs.Laws.{IsDeadAnswer, fd_of, is_dead_at, asks_call, CanRun, may_still_do, Revokes}
 
 -- the first check of a call through a dead file is no sleep, and has no effects
 pub data IsDeadCheck : Call → Option Check → Type 0 where

@@ -1,0 +1,16 @@
+pub mod FileSteps
+pub mod LineSteps
+pub mod Refusals
+pub mod Lawful
+pub mod Openings
+pub mod EventOpenings
+pub mod SeenSteps
+pub mod Runs
+pub mod Revocations
+pub mod Labels
+pub mod OpenLabels
+pub mod Fuel
+pub mod Revoking
+pub mod NoRevokes
+pub mod RevokeMarks
+pub mod Waiting
