@@ -41,6 +41,11 @@ fn laws_of_lines_are_called() {
     tty_dev::laws::dead_files();
     tty_dev::laws::live_files();
     tty_dev::laws::counts();
+    tty_dev::laws::lines_as_devices();
+    tty_dev::laws::blocks_of_lines();
+    block_pool::laws::others_keep();
+    pipe_core::laws::same_pipes();
+    pipe_core::laws::blocks_of_pipes();
     tty_dev::laws::limits();
 }
 

@@ -1,7 +1,7 @@
-//! The layers below the kernel, as tests worked out by hand: blocks, descriptors, pipes, terminal lines, trails, boots, the outside, and the
-//! texts of access lists, of shell lines and of terminal settings. They stand in a crate of their own, so that the crates below are proved
-//! once, and not once more with their tests. What the definitions of labels, lists, event lines and answers say of worked rows is computed
-//! in the proofs of script_model. Nothing else is in this crate.
+//! The layers below the kernel, as tests worked out by hand: blocks, descriptors, pipes, processes, terminal lines, trails, boots, the outside,
+//! and the texts of access lists, of shell lines and of terminal settings. They stand in a crate of their own, so that the crates below are
+//! proved once, and not once more with their tests. What the definitions of labels, lists, event lines and answers say of worked rows is
+//! computed in the proofs of script_model. Nothing else is in this crate.
 #![tactic(auto)]
 
 #[cfg(test)]
@@ -18,6 +18,8 @@ mod lists;
 mod outside;
 #[cfg(test)]
 mod pipes;
+#[cfg(test)]
+mod processes;
 #[cfg(test)]
 mod rows;
 #[cfg(test)]
