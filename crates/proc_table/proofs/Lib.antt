@@ -8,6 +8,7 @@ mod PidLemmas
 mod PidOrderLemmas
 mod ChildLemmas
 pub mod ChangeLemmas
+pub mod KeepLemmas
 mod KillLemmas
 mod Scenes
 mod SignalRows

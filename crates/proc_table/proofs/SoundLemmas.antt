@@ -1,7 +1,9 @@
 -- Posts and ends keep the slots, and leave on the list of those to be ended each process once.
 use Rattle.std.proofs.Common.{◌≡◌, ℕ, zero, suc, ◌<◌, ◌≤◌, Bool, true, false, cond, List, [], ◌∷◌, ◌++◌, length, fold, refl, ◌∙◌}
 use Rattle.std.proofs.Common.{subst, arith}
-use Rattle.std.specs.Prelude.{Option, Some, None, option_and_then, slice_index_or}
+use Rattle.std.specs.Prelude.{Option, Some, None, Result, Ok, Err, option_and_then, slice_index_or}
+use Rattle.std.specs.List.{list_any}
+use Rattle.sys_types.specs.declared.rules.Rule.TheVariants.{NoChild}
 use Rattle.std.proofs.lemmas.List.{length-set, length-map}
 use Rattle.sys_types.specs.declared.limits.TheConstants.{SLOTS}
 use Rattle.sys_types.specs.declared.sig.Sig.{Sig}
@@ -13,7 +15,10 @@ use Rattle.call_words.specs.declared.signal.To.TheVariants as to
 use Rattle.proc_table.specs.declared.post.Disposition.{Disposition}
 use Rattle.proc_table.specs.declared.post.Disposition.TheVariants as disposition
 use Rattle.proc_table.specs.Processes.{Process, Slot, empty_slot, Processes, running_of, running_at, put_slot, change_process, holds}
-use Rattle.proc_table.specs.Processes.{slot_of, add_caught}
+use Rattle.proc_table.specs.Processes.{slot_of, process_at, pid_of, add_caught}
+use Rattle.proc_table.specs.Forks.{lowest_slot, put_child, fork_into, fork}
+use Rattle.proc_table.specs.Reaping.{AfterWait, is_child, is_zombie_child, is_stopped_child, least, reap_ended, reap_zombie, report_signal, report_stop, report_or_none}
+use Rattle.proc_table.specs.Reaping.{reap_or_report, reap_by, reap}
 use Rattle.proc_table.specs.Posts.{Posted, disposition_of, continue_at, add_ending, is_ending, IsEndingList, catches_child, catch_child, post_child}
 use Rattle.proc_table.specs.Posts.{stop, dispose, post_if_running, post_at, post_all, post, receivers}
 use Rattle.proc_table.specs.Endings.{adopt_in, adopt_all, end_in, end_process, end_at, groups_orphaned_by, hang_up, bury, bury_in}
@@ -21,7 +26,7 @@ use Rattle.proc_table.specs.Changes.{with_directory}
 use Rattle.proc_table.proofs.EndingListLemmas.{has-room, list-behind}
 
 -- a running process stands in one of the slots
-within-slots : {D : Type 0} (slots : List (Slot D)) (slot : ℕ) (p : Process D)
+pub within-slots : {D : Type 0} (slots : List (Slot D)) (slot : ℕ) (p : Process D)
     → option_and_then running_of (slice_index_or slots slot empty_slot).process ≡ Some p → slot < length slots
 within-slots [] slot p is = cc
 within-slots (s ∷ ss) zero p is = omega arith
@@ -32,7 +37,7 @@ pub record IsSound {D : Type 0} (t : Processes D) (ending : List (ℕ × How)) :
   pub slots : length t.slots ≡ SLOTS
   pub list : IsEndingList ending
 
-put-length : {D : Type 0} (t : Processes D) (slot : ℕ) (s : Slot D) → length (put_slot t slot s).slots ≡ length t.slots
+pub put-length : {D : Type 0} (t : Processes D) (slot : ℕ) (s : Slot D) → length (put_slot t slot s).slots ≡ length t.slots
 put-length t slot s = length-set t.slots slot s
 
 continue-length : {D : Type 0} (signal : Sig) (t : Processes D) (slot : ℕ) → length (continue_at signal t slot).slots ≡ length t.slots
@@ -63,7 +68,7 @@ child-length : {D : Type 0} (t : Processes D) (parent : ℕ) → length (post_ch
 unfolding post_child
 child-length t parent = catch-length t (slot_of t parent)
 
-sound-add : (ending : List (ℕ × How)) (slot : ℕ) (why : How) → slot < SLOTS → IsEndingList ending → IsEndingList (add_ending ending slot why)
+pub sound-add : (ending : List (ℕ × How)) (slot : ℕ) (why : How) → slot < SLOTS → IsEndingList ending → IsEndingList (add_ending ending slot why)
 sound-add ending slot why below list = by_case (is_ending ending slot) refl
   where
     by_case : (b : Bool) → is_ending ending slot ≡ b → IsEndingList (cond b ending (ending ++ (slot, why) ∷ []))
@@ -146,3 +151,54 @@ sound_bury_in root t slot why ending sound =
 pub sound_most : (ending : List (ℕ × How)) → IsEndingList ending → length ending ≤ SLOTS
 sound_most [] list = omega arith
 sound_most (e ∷ es) list = let room = has-room es e.0 e.1 list.2 list.1 list.0 in omega arith
+
+-- ---- forks and waits keep the slots
+
+child-slots : {D : Type 0} (t : Processes D) (slot : ℕ) (note : List ℕ) (parent : Option (Process D)) → length (put_child t slot note parent).slots ≡ length t.slots
+child-slots t slot note None = refl
+child-slots t slot note (Some parent) = put-length t slot _
+
+into-slots : {D : Type 0} (t : Processes D) (slot : ℕ) (note : List ℕ) (free : Option ℕ) → length (fork_into t slot note free).slots ≡ length t.slots
+into-slots t slot note None = refl
+into-slots t slot note (Some free) = child-slots t free note (running_at t slot)
+
+pub fork-slots : {D : Type 0} (t : Processes D) (slot : ℕ) (note : List ℕ) → length (fork t slot note).slots ≡ length t.slots
+fork-slots t slot note = into-slots t slot note (lowest_slot t)
+
+ended-slots : {D : Type 0} (t : Processes D) (slot : ℕ) (p : Process D) (why : Option How) → length (reap_ended t slot p why).0.slots ≡ length t.slots
+ended-slots t slot p None = refl
+ended-slots t slot p (Some why) = put-length t slot _
+
+zombie-slots : {D : Type 0} (t : Processes D) (slot : ℕ) (p : Option (Process D)) → length (reap_zombie t slot p).0.slots ≡ length t.slots
+zombie-slots t slot None = refl
+zombie-slots t slot (Some p) = ended-slots t slot p p.ending
+
+signal-slots : {D : Type 0} (t : Processes D) (slot : ℕ) (p : Process D) (signal : Option Sig) → length (report_signal t slot p signal).0.slots ≡ length t.slots
+signal-slots t slot p None = refl
+signal-slots t slot p (Some signal) = put-length t slot _
+
+stop-slots : {D : Type 0} (t : Processes D) (slot : ℕ) (p : Option (Process D)) → length (report_stop t slot p).0.slots ≡ length t.slots
+stop-slots t slot None = refl
+stop-slots t slot (Some p) = signal-slots t slot p p.stopped
+
+none-slots : {D : Type 0} (t : Processes D) (slot : Option ℕ) → length (report_or_none t slot).0.slots ≡ length t.slots
+none-slots t None = refl
+none-slots t (Some slot) = stop-slots t slot (process_at t slot)
+
+least-slots : {D : Type 0} (t : Processes D) (parent who : ℕ) (untraced : Bool) (slot : Option ℕ) → length (reap_or_report t parent who untraced slot).0.slots ≡ length t.slots
+least-slots t parent who untraced (Some slot) = zombie-slots t slot (process_at t slot)
+least-slots t parent who true None = none-slots t (least (is_stopped_child parent who) t)
+least-slots t parent who false None = refl
+
+by-slots : {D : Type 0} (t : Processes D) (parent who : ℕ) (untraced : Bool) → length (reap_by t parent who untraced).0.slots ≡ length t.slots
+by-slots {D} t parent who untraced = by_case (list_any (λ s. holds (is_child parent who) s.process) t.slots)
+  where
+    refused : AfterWait D
+    refused = (t, Err NoChild)
+
+    by_case : (b : Bool) → length (cond b (reap_or_report t parent who untraced (least (is_zombie_child parent who) t)) refused).0.slots ≡ length t.slots
+    by_case true = least-slots t parent who untraced (least (is_zombie_child parent who) t)
+    by_case false = refl
+
+pub reap-slots : {D : Type 0} (t : Processes D) (caller who : ℕ) (untraced : Bool) → length (reap t caller who untraced).0.slots ≡ length t.slots
+reap-slots t caller who untraced = by-slots t (pid_of (process_at t caller)) who untraced

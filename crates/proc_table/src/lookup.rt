@@ -7,6 +7,7 @@ ghost use Rattle.proc_table.specs.Endings as endings;
 ghost use Rattle.proc_table.specs.Reaping as reaping;
 
 use crate::place::Place;
+use sys_types::Node;
 
 /// The first slot with the process of a pid.
 pub(crate) fn place_of(places: &[Place], pid: u32) -> Option<usize>
@@ -43,6 +44,13 @@ pub(crate) fn any_member_in(places: &[Place], group: u32, session: u32) -> bool
     places
         .iter()
         .any(|place| place.has_member_in(group, session))
+}
+
+/// Whether some slot has a running process that works in a directory.
+pub(crate) fn any_in(places: &[Place], directory: Node) -> bool
+    ensures { result ≡ list_any (λ s. spec.holds (λ p. spec.is_running p && p.directory == directory) s.process) places.now }
+{
+    places.iter().any(|place| place.works_in(directory))
 }
 
 /// Whether some slot has a child of a pid that a wait names.

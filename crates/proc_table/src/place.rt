@@ -11,7 +11,7 @@ use crate::order::is_child;
 use crate::proc::Proc;
 use call_words::{Call, How};
 use std::marker::Model;
-use sys_types::Sig;
+use sys_types::{Node, Sig};
 
 /// A slot: its process, and what it has while it has none: a call that is pending. Contracts see a `Slot` in which working
 /// directories are numbers of nodes.
@@ -91,6 +91,16 @@ impl Place {
             Some(process) => process.is_running()
                 && process.group == group
                 && process.session == session,
+        }
+    }
+
+    /// Whether it has a running process that works in a directory.
+    pub(crate) fn works_in(&self, directory: Node) -> bool
+        ensures { result ≡ spec.holds (λ p. spec.is_running p && p.directory == directory) self.now.process }
+    {
+        match &self.process {
+            None => false,
+            Some(process) => process.is_running() && process.cwd == directory,
         }
     }
 

@@ -1,5 +1,5 @@
 //! The table of processes.
-ghost use Rattle.std.specs.Prelude.{◌≡◌, ℕ, ◌+◌, ◌<◌, ◌^◌, Some, None, is_some, option_map, option_copied, ok_or, IfOk, IfSome, IsTrue, replicate};
+ghost use Rattle.std.specs.Prelude.{◌≡◌, ◌==◌, ℕ, ◌+◌, ◌<◌, ◌^◌, Some, None, is_some, option_map, option_copied, ok_or, IfOk, IfSome, IsTrue, replicate};
 ghost use Rattle.sys_types.specs.declared.limits.TheConstants.{SLOTS};
 ghost use Rattle.sys_types.specs.declared.rules.Rule.TheVariants as rule;
 ghost use Rattle.proc_table.specs.Processes as spec;
@@ -7,7 +7,7 @@ ghost use Rattle.proc_table.specs.Forks as forks;
 ghost use Rattle.proc_table.specs.Procs.{process_of, put_proc};
 
 use crate::actions::Actions;
-use crate::lookup::{free_place, place_of};
+use crate::lookup::{any_in, free_place, place_of};
 use crate::place::Place;
 use crate::proc::{INIT, Proc, ProcState};
 use acl_core::Cred;
@@ -184,6 +184,13 @@ impl ProcTable {
         } else {
             None
         }
+    }
+
+    /// Whether a running process has a node as its working directory.
+    pub fn is_directory_of_any(&self, node: Node) -> bool
+        ensures { result ≡ spec.any_running (λ p. p.directory == node) self.now }
+    {
+        any_in(&self.places, node)
     }
 
     /// The running process of a pid. `None` comes exactly where no running process has it.
