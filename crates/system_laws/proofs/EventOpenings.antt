@@ -1,5 +1,5 @@
 -- What an event does opens no file, or revokes nothing and ends nobody.
-use Rattle.std.proofs.Common.{◌≡◌, ℕ, Bool, true, false, cond, ◌⊎◌, inl, inr, List, [], ◌∷◌, ◌++◌, map, refl, ap, sym, ◌∙◌}
+use Rattle.std.proofs.Common.{◌≡◌, ℕ, Bool, true, false, cond, inl, inr, List, [], ◌∷◌, ◌++◌, map, refl}
 use Rattle.std.specs.Prelude.{Option, Some, None, is_some, option_map}
 use Rattle.std.specs.List.{list_all}
 use Rattle.sys_types.specs.declared.sig.Sig.{Sig}
@@ -18,7 +18,7 @@ use Rattle.call_words.specs.declared.event.Reason.TheVariants as reason
 use Rattle.system_model.specs.Rows.{noted, gone, Outcome, refused, early, asleep, Check, deny, answer_if, Row, behind, first, effects_by, done, also, ended_by}
 use Rattle.system_model.specs.Looks.{line_of}
 use Rattle.system_model.specs.LineEvents as events
-use Rattle.system_model.specs.Step.{call_row, run_row, tell_if_left, begin_sleeps, gone_row, enter_row, retry_row, again_row, is_begin_pending, event_row, row}
+use Rattle.system_model.specs.Step.{run_row, tell_if_left, begin_sleeps, gone_row, enter_row, retry_row, again_row, is_begin_pending, event_row, row}
 use Rattle.system_laws.specs.Laws.{may_still_do}
 use Rattle.system_laws.proofs.Refusals.{AreQuiet, next_check, no_check, IsQuiet, where_none, where_some, all-both, quiet-none, quiet_call}
 use Rattle.system_laws.proofs.Openings.{opens_file, NoOpen, no_effect, next_effect, open-append, open-process, open-if, open-halt, open-line, Calm, calm_end}

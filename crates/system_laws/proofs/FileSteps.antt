@@ -1,18 +1,18 @@
 -- What changes of open files and pipes is the same in a state and in what calls see of it.
 use Rattle.std.proofs.Common.{◌≡◌, ℕ, zero, suc, ◌≤◌, Bool, true, false, cond, List, [], ◌∷◌, map, refl, sym, ap, ◌∙◌, arith}
-use Rattle.std.specs.Prelude.{◌==◌, if◌then◌else◌, Option, Some, None, option_map, slice_set}
+use Rattle.std.specs.Prelude.{◌==◌, Option, Some, None, option_map, slice_set}
 use Rattle.fd_table.specs.Shared.{Shared, make, lowest_number, drop_number, last_file, map_files, count_files}
 use Rattle.fd_table.proofs.MapLemmas as shared
-use Rattle.pipe_core.specs.Pipes.{Pipes, map_pipes, remove, put}
+use Rattle.pipe_core.specs.Pipes.{map_pipes, remove, put}
 use Rattle.pipe_core.proofs.MapLemmas as pipe
-use Rattle.line_disc.specs.Device.{Device, closed_device, close_last, map_device}
+use Rattle.line_disc.specs.Device.{Device, close_last, map_device}
 use Rattle.line_disc.proofs.DeviceMapLemmas as device
-use Rattle.system_model.specs.Parts.{Target, node, read_end, write_end, tty, File, Parts, map_parts}
+use Rattle.system_model.specs.Parts.{Target, node, read_end, write_end, tty, Parts, map_parts}
 use Rattle.system_model.specs.State.{Revokes, NamedFile, Tagged, OpenFile, View, last_revoke, is_revoked, seen_file, byte_of}
 use Rattle.line_disc.specs.Lines.{line_at, change_line}
-use Rattle.system_model.specs.Keeping.{Keeping, tagging, seeing, is_end_of, is_live_of}
+use Rattle.system_model.specs.Keeping.{tagging, seeing, is_end_of, is_live_of}
 use Rattle.system_model.specs.FileEffects.{FileEffect, open_file, copy_fd, close_fd, fork_fds, set_offset, release_pipe, release_line, release_target, release}
-use Rattle.system_model.specs.FileEffects.{at_offset, change_files}
+use Rattle.system_model.specs.FileEffects.{change_files}
 use Rattle.system_model.specs.PipeEffects.{PipeEffect, add_pipe, put_pipe, take_pipe, change_pipes}
 use Rattle.std.proofs.lemmas.List.{map-set}
 

@@ -1,5 +1,5 @@
 -- As many endings as there are slots suffice: each process ends once in an event.
-use Rattle.std.proofs.Common.{◌≡◌, ℕ, zero, suc, ◌+◌, ◌<◌, ◌≤◌, Bool, true, false, cond, List, [], ◌∷◌, ◌++◌, map, length, refl, ap, sym, ◌∙◌, subst, arith}
+use Rattle.std.proofs.Common.{◌≡◌, ℕ, zero, suc, ◌+◌, ◌≤◌, Bool, true, false, cond, List, [], ◌∷◌, ◌++◌, length, refl, ap, sym, ◌∙◌, subst, arith}
 use Rattle.std.specs.Prelude.{◌==◌, filter, Option, Some, None, is_some, slice_get}
 use Rattle.std.specs.List.{range_with_len}
 use Rattle.std.proofs.lemmas.List.{append_assoc, append-nil}
@@ -19,7 +19,7 @@ use Rattle.system_model.specs.Keeping.{seeing, is_end_of, is_live_of}
 use Rattle.system_model.specs.FileEffects.{close_fd, release_pipe, release_line, release_target, release, change_files}
 use Rattle.system_model.specs.LineEffects.{revoke_line, change_lines}
 use Rattle.system_model.specs.ProcessEffects.{post, bury, change_processes}
-use Rattle.system_model.specs.Effects.{Effect, on_files, on_lines, on_processes, change, change_all}
+use Rattle.system_model.specs.Effects.{on_files, on_lines, on_processes, change, change_all}
 use Rattle.system_model.specs.ProcCalls.{close_fds}
 use Rattle.system_model.specs.Looks.{caller_of, line_of_session}
 use Rattle.system_model.specs.Endings.{close_all, leave_line, leave_session, end_one, end_next, endings}
@@ -56,15 +56,15 @@ sound-release : (v : View) (f : Option OpenFile) → IsSoundView v → IsSoundVi
 sound-release v None sound = sound
 sound-release v (Some f) sound = sound-target v f.dead f.file.target sound
 
-sound-close : (v : View) (slot fd : ℕ) → IsSoundView v → IsSoundView (change v (on_files (close_fd slot fd)))
+pub sound-close : (v : View) (slot fd : ℕ) → IsSoundView v → IsSoundView (change v (on_files (close_fd slot fd)))
 unfolding change_files
 sound-close v slot fd sound = sound-release (record v { descriptors = drop_number v.descriptors slot fd }) (last_file v.descriptors slot fd) sound
 
-sound-post : (v : View) (signal : Sig) (whom : To) → IsSoundView v → IsSoundView (change v (on_processes (post signal whom)))
+pub sound-post : (v : View) (signal : Sig) (whom : To) → IsSoundView v → IsSoundView (change v (on_processes (post signal whom)))
 unfolding change_processes
 sound-post v signal whom sound = sound_post v.processes signal whom v.ending sound
 
-sound-bury : (v : View) (slot : ℕ) (why : How) → IsSoundView v → IsSoundView (change v (on_processes (bury slot why)))
+pub sound-bury : (v : View) (slot : ℕ) (why : How) → IsSoundView v → IsSoundView (change v (on_processes (bury slot why)))
 unfolding change_processes
 sound-bury v slot why sound = sound_bury_in [] v.processes slot why v.ending sound
 
@@ -113,7 +113,7 @@ pub endings_step : (fuel place : ℕ) (v : View)
 unfolding endings
 endings_step fuel place v = refl
 
-sound-endings : (fuel place : ℕ) (v : View) → IsSoundView v → IsSoundView (change_all v (endings fuel place v))
+pub sound-endings : (fuel place : ℕ) (v : View) → IsSoundView v → IsSoundView (change_all v (endings fuel place v))
 unfolding endings
 sound-endings zero place v sound = sound
 sound-endings (suc fuel) place v sound =
@@ -147,7 +147,7 @@ none-at (x ∷ xs) zero beyond = absurd (omega arith)
 none-at (x ∷ xs) (suc place) beyond = none-at xs place (omega arith)
 
 -- behind the end of the list nobody ends
-none-more : (fuel place : ℕ) (v : View) → length v.ending ≤ place → endings fuel place v ≡ []
+pub none-more : (fuel place : ℕ) (v : View) → length v.ending ≤ place → endings fuel place v ≡ []
 unfolding endings
 none-more zero place v beyond = refl
 none-more (suc fuel) place v beyond =

@@ -1,5 +1,5 @@
 -- Bytes are read, and counts are answered to writes, only where labels allow it.
-use Rattle.std.proofs.Common.{◌≡◌, ℕ, Bool, true, false, cond, List, [], ◌∷◌, ◌++◌, refl, ap, sym, ◌∙◌, subst}
+use Rattle.std.proofs.Common.{◌≡◌, ℕ, Bool, true, false, cond, List, [], ◌∷◌, refl, ap, sym, ◌∙◌, subst}
 use Rattle.std.specs.Prelude.{not, ◌==◌, nat_lt, length, Option, Some, None, is_none, is_some, option_map}
 use Rattle.sys_types.specs.declared.limits.TheConstants.{PIECE_BYTES}
 use Rattle.sys_types.specs.declared.rules.Rule.TheVariants.{Size, BadFd, FdMode, Dead, LabelRead, LabelWrite, Asleep}

@@ -1,19 +1,17 @@
 -- Each answer is that of the first check that holds, or of the row where none does.
-use Rattle.std.proofs.Common.{◌≡◌, ℕ, Bool, true, false, List, refl, ap, sym, ◌∙◌}
+use Rattle.std.proofs.Common.{◌≡◌, ℕ, List, ap}
 use Rattle.std.specs.Prelude.{Option, Some, None}
-use Rattle.std.specs.List.{list_all}
 use Rattle.sys_types.specs.declared.rules.Rule.{Rule}
 use Rattle.call_words.specs.declared.event.Event.{Event}
 use Rattle.call_words.specs.declared.event.Reason.{Reason}
 use Rattle.call_words.specs.declared.event.Reply.TheVariants.{Denied}
-use Rattle.call_words.specs.declared.event.Decision.{Decision}
 use Rattle.call_words.specs.declared.event.Decision.TheVariants.{Answer, Sleep}
-use Rattle.system_model.specs.State.{State, View, view}
+use Rattle.system_model.specs.State.{State, view}
 use Rattle.system_model.specs.Effects.{Effect}
-use Rattle.system_model.specs.Rows.{Given, number, pair, child, image, bytes, text, gone, taken, noted, refused, early, asleep, Check, Row, answer_of}
-use Rattle.system_model.specs.Rows.{decision_by, effects_by, first, done, decision}
-use Rattle.system_model.specs.Step.{row, answer_to, step}
-use Rattle.system_laws.specs.Laws.{may_still_do, Refuses}
+use Rattle.system_model.specs.Rows.{Given, number, pair, child, image, bytes, text, gone, taken, noted, refused, early, asleep, Check, answer_of}
+use Rattle.system_model.specs.Rows.{decision_by, effects_by, first, done}
+use Rattle.system_model.specs.Step.{row, answer_to}
+use Rattle.system_laws.specs.Laws.{Refuses}
 use Rattle.system_laws.proofs.Refusals.{careful}
 
 -- an answer that is given is no denial and no sleep

@@ -12,5 +12,8 @@ pub mod OpenLabels
 pub mod Fuel
 pub mod Revoking
 pub mod NoRevokes
+pub mod LeaderEnds
 pub mod RevokeMarks
 pub mod Waiting
+pub mod SoundRows
+pub mod SoundEvents

@@ -1,13 +1,12 @@
 -- What changes of lines is the same in a state and in what calls see of it.
-use Rattle.std.proofs.Common.{◌≡◌, ℕ, ◌≤◌, ◌<◌, Bool, true, false, List, [], ◌∷◌, map, refl, sym, ap, ◌∙◌, arith}
+use Rattle.std.proofs.Common.{◌≡◌, ℕ, ◌<◌, Bool, true, false, List, [], ◌∷◌, map, refl, ap, ◌∙◌, arith}
 use Rattle.std.specs.Prelude.{◌==◌, ◌||◌, nat_lt, Option, Some, None, option_map}
-use Rattle.fd_table.specs.Shared.{Shared, map_files}
 use Rattle.line_disc.specs.Device as device
 use Rattle.line_disc.specs.Device.{Device, map_device}
 use Rattle.line_disc.proofs.DeviceMapLemmas as lemmas
-use Rattle.system_model.specs.Parts.{Target, node, read_end, write_end, tty, File, Parts}
-use Rattle.system_model.specs.State.{Revokes, NamedFile, Tagged, OpenFile, last_revoke, is_revoked, seen_file, byte_of}
-use Rattle.line_disc.specs.Lines.{line_at, change_line}
+use Rattle.system_model.specs.Parts.{Target, node, read_end, write_end, tty, Parts}
+use Rattle.system_model.specs.State.{Revokes, NamedFile, Tagged, last_revoke, is_revoked, seen_file, byte_of}
+use Rattle.line_disc.specs.Lines.{change_line}
 use Rattle.system_model.specs.Keeping.{tagging, seeing, is_tty, mark_dead}
 use Rattle.system_model.specs.LineEffects.{LineEffect, open_line, receive_byte, read_line, write_line, take_output, set_carrier, end_line, revoke_line}
 use Rattle.system_model.specs.LineEffects.{flush_line, retune_line, set_session, set_foreground, change_lines, revokes_after}

@@ -1,17 +1,12 @@
 -- Of all calls revoke(2) alone revokes a line.
-use Rattle.std.proofs.Common.{◌≡◌, ℕ, zero, suc, ◌+◌, Bool, true, false, cond, length, ◌⊎◌, inl, inr, List, [], ◌∷◌, ◌++◌, map, refl, ap, sym, ◌∙◌}
-use Rattle.std.specs.Prelude.{◌&&◌, ◌||◌, ◌==◌, not, filter, Option, Some, None, is_some, option_map, slice_get}
-use Rattle.sys_types.specs.declared.limits.TheConstants.{SLOTS}
-use Rattle.std.specs.List.{list_all}
+use Rattle.std.proofs.Common.{◌≡◌, ℕ, Bool, true, false, cond, List, [], ◌∷◌, ◌++◌, refl}
+use Rattle.std.specs.Prelude.{◌==◌, Option, Some, None}
 use Rattle.sys_types.specs.declared.sig.Sig.{Sig}
 use Rattle.call_words.specs.declared.call.Call.{Call}
 use Rattle.call_words.specs.declared.call.Call.TheVariants as call
-use Rattle.call_words.specs.declared.event.How.{How}
 use Rattle.call_words.specs.declared.tty.When.{When}
 use Rattle.call_words.specs.declared.tty.When.TheVariants as when
 use Rattle.proc_table.specs.Processes.{Process, least_caught}
-use Rattle.tree_model.specs.Contents.{with_contents}
-use Rattle.tree_model.specs.Paths.{path_at}
 use Rattle.termios_core.specs.Text.{termios_text}
 use Rattle.sys_types.specs.declared.node.Kind.{Kind}
 use Rattle.sys_types.specs.declared.node.Kind.TheVariants as kind
@@ -19,29 +14,24 @@ use Rattle.call_words.specs.declared.open.Access.{Access}
 use Rattle.call_words.specs.declared.open.OpenFlags.{OpenFlags}
 use Rattle.tree_model.specs.Tree.{NodeRecord, WalkEnd, found, absent, missing, not_dir, name_long, path_long}
 use Rattle.proc_table.specs.Jobs.{setpgid_target}
-use Rattle.system_model.specs.Parts.{Path, File, Target, node, read_end, write_end, tty}
+use Rattle.system_model.specs.Parts.{Path, Target, node, read_end, write_end, tty}
 use Rattle.system_model.specs.State.{OpenFile, View}
-use Rattle.system_model.specs.FileEffects.{FileEffect, open_file, copy_fd, close_fd, fork_fds, set_offset}
+use Rattle.system_model.specs.FileEffects.{FileEffect}
 use Rattle.system_model.specs.PipeEffects.{PipeEffect}
 use Rattle.termios_core.specs.declared.termios.Termios.{Termios}
-use Rattle.system_model.specs.LineEffects.{LineEffect, open_line, receive_byte, read_line, write_line, take_output, set_carrier, end_line, flush_line}
+use Rattle.system_model.specs.LineEffects.{open_line, receive_byte, read_line, write_line, take_output, set_carrier, end_line, flush_line}
 use Rattle.system_model.specs.LineEffects.{retune_line, set_session, set_foreground}
-use Rattle.system_model.specs.TreeEffects.{TreeEffect, set_node}
-use Rattle.system_model.specs.ProcessEffects.{ProcessEffect, set_process, fork_process, reap_child, set_pending, tell, post, add_ending, bury, clear_ending}
-use Rattle.system_model.specs.Effects.{Effect, on_files, on_pipes, on_lines, on_tree, on_processes, halt, change_all}
-use Rattle.system_model.specs.Rows.{Row, text, only, first, effects_by, done, ended_by, also}
-use Rattle.system_model.specs.Looks.{on_node, caller_of, line_of, file_at, node_at, end_of, termios_of}
+use Rattle.system_model.specs.TreeEffects.{TreeEffect}
+use Rattle.system_model.specs.ProcessEffects.{ProcessEffect}
+use Rattle.system_model.specs.Effects.{Effect, on_files, on_pipes, on_lines, on_tree, on_processes, halt}
+use Rattle.system_model.specs.Rows.{Row, text, only, first}
+use Rattle.system_model.specs.Looks.{caller_of, file_at, node_at, end_of, termios_of}
 use Rattle.system_model.specs.OpenCalls as opens
 use Rattle.system_model.specs.IoCalls as io
-use Rattle.system_model.specs.PipeCalls as pipes
 use Rattle.system_model.specs.DirCalls as dirs
-use Rattle.system_model.specs.AttrCalls as attrs
-use Rattle.system_model.specs.CredCalls as creds
 use Rattle.system_model.specs.ProcCalls as procs
 use Rattle.system_model.specs.SignalCalls as signals
 use Rattle.system_model.specs.TtyCalls as ttys
-use Rattle.system_model.specs.LineEvents as events
-use Rattle.system_model.specs.Endings.{close_all, leave_line, leave_session, end_one, end_next, endings, endings_of}
 use Rattle.system_model.specs.Step.{call_row}
 use Rattle.system_laws.specs.Laws.{is_revoke_of}
 

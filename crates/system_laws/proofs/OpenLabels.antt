@@ -1,6 +1,6 @@
 -- A node is opened only for what labels allow.
-use Rattle.std.proofs.Common.{◌≡◌, ℕ, Bool, true, false, cond, List, [], ◌∷◌, ◌++◌, refl, ap, sym, ◌∙◌, subst}
-use Rattle.std.specs.Prelude.{not, ◌&&◌, ◌||◌, Option, Some, None, option_map}
+use Rattle.std.proofs.Common.{◌≡◌, ℕ, Bool, true, false, List, [], ◌∷◌, ◌++◌, refl, sym, ◌∙◌, subst}
+use Rattle.std.specs.Prelude.{not, ◌&&◌, ◌||◌, Option, Some, None}
 use Rattle.label_core.specs.Element.{dom}
 use Rattle.sys_types.specs.declared.node.Kind.{Kind}
 use Rattle.sys_types.specs.declared.node.Kind.TheVariants as kind
@@ -14,17 +14,16 @@ use Rattle.call_words.specs.declared.open.Access.{Access}
 use Rattle.call_words.specs.declared.open.OpenFlags.{OpenFlags}
 use Rattle.call_words.specs.Calls.{can_read, can_write}
 use Rattle.access_rule.specs.Access as rules
-use Rattle.tree_model.specs.Tree.{NodeRecord, WalkEnd, found, is_dir_record}
-use Rattle.tree_model.specs.Paths.{path_rule, access_rule}
+use Rattle.tree_model.specs.Tree.{NodeRecord, found, is_dir_record}
+use Rattle.tree_model.specs.Paths.{access_rule}
 use Rattle.fd_table.specs.Shared.{lowest_number}
-use Rattle.proc_table.specs.Processes.{Process}
 use Rattle.system_model.specs.Parts.{Path}
 use Rattle.system_model.specs.State.{State, View, view}
-use Rattle.system_model.specs.Rows.{Given, number, Check, Row, deny, deny_by, behind, first, decision_by, decision}
-use Rattle.system_model.specs.Looks.{caller_of, path_check, end_of, node_at, access_check, dominates_node, node_dominates, tty_path}
+use Rattle.system_model.specs.Rows.{Given, number, Check, deny, deny_by, behind, first, decision_by, decision}
+use Rattle.system_model.specs.Looks.{caller_of, path_check, end_of, node_at, access_check, tty_path}
 use Rattle.system_model.specs.OpenCalls.{flags_clash, open_at, place_checks, kind_checks, own_tty_checks, own_tty, tty_checks, room_check}
 use Rattle.system_model.specs.Step.{call_row}
-use Rattle.system_laws.specs.Laws.{asks_call, MayOpen, OpensByLabels}
+use Rattle.system_laws.specs.Laws.{MayOpen, OpensByLabels}
 use Rattle.system_laws.proofs.Labels.{own-answer}
 
 -- where no rule refuses an access, labels allow it

@@ -1,8 +1,7 @@
 -- Of all calls open(2) and pipe(2) alone open files, and they revoke nothing; so what an event revokes was opened before it.
-use Rattle.std.proofs.Common.{◌≡◌, ℕ, zero, suc, ◌+◌, Bool, true, false, cond, length, ◌⊎◌, inl, inr, List, [], ◌∷◌, ◌++◌, map, refl, ap, sym, ◌∙◌}
-use Rattle.std.specs.Prelude.{◌&&◌, ◌||◌, ◌==◌, not, filter, Option, Some, None, is_some, option_map, slice_get}
+use Rattle.std.proofs.Common.{◌≡◌, ℕ, zero, suc, ◌+◌, Bool, true, false, cond, length, ◌⊎◌, inl, inr, List, [], ◌∷◌, ◌++◌, refl}
+use Rattle.std.specs.Prelude.{◌==◌, Option, Some, None, slice_get}
 use Rattle.sys_types.specs.declared.limits.TheConstants.{SLOTS}
-use Rattle.std.specs.List.{list_all}
 use Rattle.sys_types.specs.declared.sig.Sig.{Sig}
 use Rattle.call_words.specs.declared.call.Call.{Call}
 use Rattle.call_words.specs.declared.call.Call.TheVariants as call
@@ -19,7 +18,7 @@ use Rattle.call_words.specs.declared.open.Access.{Access}
 use Rattle.call_words.specs.declared.open.OpenFlags.{OpenFlags}
 use Rattle.tree_model.specs.Tree.{NodeRecord, WalkEnd, found, absent, missing, not_dir, name_long, path_long}
 use Rattle.proc_table.specs.Jobs.{setpgid_target}
-use Rattle.system_model.specs.Parts.{Path, File, Target, node, read_end, write_end, tty}
+use Rattle.system_model.specs.Parts.{Path, Target, node, read_end, write_end, tty}
 use Rattle.system_model.specs.State.{OpenFile, View}
 use Rattle.system_model.specs.FileEffects.{FileEffect, open_file, copy_fd, close_fd, fork_fds, set_offset}
 use Rattle.system_model.specs.PipeEffects.{PipeEffect}
@@ -27,19 +26,15 @@ use Rattle.system_model.specs.LineEffects.{LineEffect}
 use Rattle.system_model.specs.TreeEffects.{TreeEffect, set_node}
 use Rattle.system_model.specs.ProcessEffects.{ProcessEffect, set_process, fork_process, reap_child, set_pending, tell, post, add_ending, bury, clear_ending}
 use Rattle.system_model.specs.Effects.{Effect, on_files, on_pipes, on_lines, on_tree, on_processes, halt, change_all}
-use Rattle.system_model.specs.Rows.{Row, text, only, first, effects_by, done, ended_by, also}
-use Rattle.system_model.specs.Looks.{on_node, caller_of, line_of, file_at, node_at, end_of, termios_of}
+use Rattle.system_model.specs.Rows.{Row, text, only, first}
+use Rattle.system_model.specs.Looks.{caller_of, file_at, node_at, end_of, termios_of}
 use Rattle.system_model.specs.OpenCalls as opens
 use Rattle.system_model.specs.IoCalls as io
-use Rattle.system_model.specs.PipeCalls as pipes
 use Rattle.system_model.specs.DirCalls as dirs
-use Rattle.system_model.specs.AttrCalls as attrs
-use Rattle.system_model.specs.CredCalls as creds
 use Rattle.system_model.specs.ProcCalls as procs
 use Rattle.system_model.specs.SignalCalls as signals
 use Rattle.system_model.specs.TtyCalls as ttys
-use Rattle.system_model.specs.LineEvents as events
-use Rattle.system_model.specs.Endings.{close_all, leave_line, leave_session, end_one, end_next, endings, endings_of}
+use Rattle.system_model.specs.Endings.{leave_line, leave_session, end_one, end_next, endings, endings_of}
 use Rattle.system_model.specs.Step.{call_row}
 use Rattle.system_laws.proofs.LineSteps.{is_calm_line}
 

@@ -16,24 +16,21 @@ use Rattle.call_words.specs.declared.signal.To.{To}
 use Rattle.tree_model.specs.Tree.{NodeRecord, WalkEnd, found, absent, missing, not_dir, name_long, path_long}
 use Rattle.call_words.specs.declared.event.Event.{Event}
 use Rattle.call_words.specs.declared.event.Event.TheVariants as event
-use Rattle.call_words.specs.declared.event.Reason.{Reason}
 use Rattle.call_words.specs.declared.event.Reason.TheVariants as reason
 use Rattle.proc_table.specs.Processes.{Process, least_caught, is_stopped, running_at, pending_at}
 use Rattle.proc_table.specs.Forks.{is_begin}
 use Rattle.proc_table.specs.Jobs.{setpgid_target}
-use Rattle.system_model.specs.Parts.{Path, File, Target, node, read_end, write_end, tty}
+use Rattle.system_model.specs.Parts.{Path, Target, node, read_end, write_end, tty}
 use Rattle.system_model.specs.State.{OpenFile, View}
 use Rattle.system_model.specs.ProcessEffects.{post, set_pending}
 use Rattle.system_model.specs.Effects.{Effect, on_processes}
-use Rattle.system_model.specs.Rows.{Given, noted, gone, Outcome, refused, early, asleep, Check, Row, check, deny, deny_by, answer_if, behind, first, also}
+use Rattle.system_model.specs.Rows.{noted, gone, Outcome, refused, early, asleep, Check, Row, check, deny, deny_by, answer_if, behind, first, also}
 use Rattle.system_model.specs.Rows.{ended_by}
 use Rattle.system_model.specs.Background.{background_read, background_write}
 use Rattle.system_model.specs.IoCalls as io
 use Rattle.system_model.specs.OpenCalls as opens
-use Rattle.system_model.specs.PipeCalls as pipes
 use Rattle.system_model.specs.DirCalls as dirs
 use Rattle.system_model.specs.AttrCalls as attrs
-use Rattle.system_model.specs.CredCalls as creds
 use Rattle.system_model.specs.ProcCalls as procs
 use Rattle.system_model.specs.SignalCalls as signals
 use Rattle.system_model.specs.TtyCalls as ttys

@@ -1,6 +1,6 @@
 -- A call through a dead file is answered as dead, and its slot can go on.
-use Rattle.std.proofs.Common.{◌≡◌, ℕ, Bool, true, false, cond, ◌⊎◌, inl, inr, List, [], ◌∷◌, ◌++◌, map, refl, ap, sym, subst, ◌∙◌}
-use Rattle.std.specs.Prelude.{not, nat_lt, Option, Some, None, is_none, is_some, option_map}
+use Rattle.std.proofs.Common.{◌≡◌, ℕ, Bool, true, false, inl, inr, List, [], ◌∷◌, map, refl, ap, sym, subst, ◌∙◌}
+use Rattle.std.specs.Prelude.{not, nat_lt, Option, Some, None, is_some, option_map}
 use Rattle.std.specs.List.{list_all}
 use Rattle.sys_types.specs.declared.limits.TheConstants.{PIECE_BYTES}
 use Rattle.sys_types.specs.declared.rules.Rule.TheVariants.{Size, BadFd, FdMode, Dead, Asleep}
@@ -14,8 +14,8 @@ use Rattle.system_model.specs.Parts.{Path}
 use Rattle.system_model.specs.State.{OpenFile, State, View, view}
 use Rattle.system_model.specs.ProcessEffects.{set_pending}
 use Rattle.system_model.specs.Effects.{Effect, on_processes}
-use Rattle.system_model.specs.Rows.{Given, bytes, gone, Outcome, refused, early, asleep, Check, Row, check, deny, answer_if, first, decision_by, effects_by}
-use Rattle.system_model.specs.Rows.{decision, done, also, ended_by}
+use Rattle.system_model.specs.Rows.{Given, bytes, gone, Outcome, refused, early, asleep, Check, check, deny, answer_if, first, decision_by, effects_by}
+use Rattle.system_model.specs.Rows.{done, also, ended_by}
 use Rattle.system_model.specs.Looks.{file_at, holds_of}
 use Rattle.system_model.specs.Step.{call_row, run_row, enter_row, retry_row, again_row, row, answer_to, is_idle_check, is_idle, can_go_on}
 use Rattle.system_laws.specs.Laws.{IsDeadAnswer, fd_of, is_dead_at, asks_call, CanRun, may_still_do, Revokes}

@@ -1,7 +1,7 @@
 -- A line is revoked by a call of revoke(2) that is answered, or by the end of the leader of the line's session.
-use Rattle.std.proofs.Common.{◌≡◌, ℕ, zero, suc, ◌+◌, Bool, true, false, cond, length, ◌⊎◌, inl, inr, List, [], ◌∷◌, ◌++◌, map, refl, ap, sym, ◌∙◌, subst}
+use Rattle.std.proofs.Common.{◌≡◌, ℕ, zero, suc, ◌+◌, Bool, true, false, cond, length, ◌⊎◌, inl, inr, List, [], ◌∷◌, ◌++◌, refl, ap, sym, ◌∙◌, subst}
 use Rattle.std.proofs.Common.{arith}
-use Rattle.std.specs.Prelude.{◌&&◌, ◌||◌, ◌==◌, not, filter, if◌then◌else◌, Option, Some, None, is_none, is_some, option_map, slice_get}
+use Rattle.std.specs.Prelude.{◌||◌, ◌==◌, not, filter, Option, Some, None, is_none, is_some, option_map, slice_get}
 use Rattle.std.specs.List.{list_all, list_any, range_with_len}
 use Rattle.std.proofs.lemmas.List.{append-nil}
 use Rattle.std.proofs.lemmas.Bool.Decides.{nat_tests}
@@ -41,7 +41,7 @@ use Rattle.system_model.specs.Endings.{close_all, leave_line, leave_session, end
 use Rattle.system_model.specs.Step.{call_row, run_row, tell_if_left, begin_sleeps, gone_row, enter_row, retry_row, again_row, is_begin_pending, event_row, row}
 use Rattle.system_model.specs.Step.{answer_to, effects_of}
 use Rattle.system_laws.specs.Laws.{may_still_do, asks_call, CanRun, is_revoke_of, revokes_line, before_ending, IsRevokedBy, by_call, by_end, MarksRevokes}
-use Rattle.system_laws.proofs.Refusals.{AreQuiet, all-both, first-quiet, quiet_call, next_check, no_check, quiet-none}
+use Rattle.system_laws.proofs.Refusals.{all-both, first-quiet, quiet_call}
 use Rattle.system_laws.proofs.Revocations.{first-map, entered, retried}
 use Rattle.system_laws.proofs.NoRevokes.{NoRevoke, no_effect, next_effect, rev-append, rev-if, rev-process, rev-halt, rev-receive, rev-carrier, rev-take}
 use Rattle.system_laws.proofs.NoRevokes.{rev-ends, is_revoke_call, rev_call}
@@ -49,6 +49,7 @@ use Rattle.system_laws.proofs.Revoking.{all_mark}
 use Rattle.system_laws.proofs.Runs.{change_more}
 use Rattle.system_laws.proofs.Labels.{is_own, own-gone, own-behind, own-ended, own-answer}
 use Rattle.system_laws.proofs.Fuel.{endings-parts}
+use Rattle.system_laws.proofs.LeaderEnds.{leader_ends}
 
 -- ---- lists of effects
 
@@ -510,4 +511,5 @@ marks_revokes s p e = record {
   marks = λ n. all_mark s p n (effects_of (view s) e);
   only = λ n is. revoked-by n (view s) e is;
   calls = λ slot n path asks is line. calls-revoke (view s) e slot n path asks is line;
+  ends = λ place slot n why below is leads line. leader_ends (view s) e place slot n why below is leads line;
 }

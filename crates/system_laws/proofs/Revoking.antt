@@ -1,8 +1,8 @@
 -- Which events revoke a line: a revoke that is answered, and the end of a session's leader.
-use Rattle.std.proofs.Common.{◌≡◌, ℕ, zero, suc, ◌+◌, Bool, true, false, cond, length, List, [], ◌∷◌, ◌++◌, map, refl, ap, sym, ◌∙◌, subst}
-use Rattle.std.specs.Prelude.{◌&&◌, ◌||◌, ◌==◌, not, filter, Option, Some, None, is_some, option_map, slice_get}
-use Rattle.std.specs.List.{list_all, list_any}
-use Rattle.system_model.specs.State.{State, View, Revokes, last_revoke, view}
+use Rattle.std.proofs.Common.{◌≡◌, ℕ, Bool, true, false, cond, List, [], ◌∷◌, refl, ap, ◌∙◌}
+use Rattle.std.specs.Prelude.{◌||◌}
+use Rattle.std.specs.List.{list_any}
+use Rattle.system_model.specs.State.{State, Revokes, last_revoke}
 use Rattle.system_model.specs.LineEffects.{LineEffect, open_line, receive_byte, read_line, write_line, take_output, set_carrier, end_line, revoke_line}
 use Rattle.system_model.specs.LineEffects.{flush_line, retune_line, set_session, set_foreground, revokes_after}
 use Rattle.system_laws.specs.Laws.{line_revokes, is_revoke_of}

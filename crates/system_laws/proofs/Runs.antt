@@ -1,12 +1,12 @@
 -- What calls see of a state steps as the state does, and the bounds on positions hold after each event.
-use Rattle.std.proofs.Common.{◌≡◌, ℕ, zero, suc, ◌+◌, ◌≤◌, ◌<◌, Bool, true, false, cond, length, ◌⊎◌, inl, inr, List, [], ◌∷◌, ◌++◌, refl, sym, ap, ◌∙◌, arith}
+use Rattle.std.proofs.Common.{◌≡◌, ℕ, zero, suc, ◌+◌, ◌<◌, Bool, true, false, cond, length, ◌⊎◌, inl, inr, List, [], ◌∷◌, ◌++◌, refl, sym, ap, ◌∙◌, arith}
 use Rattle.std.specs.Prelude.{◌==◌, if◌then◌else◌, Option, Some, None, replicate}
 use Rattle.sys_types.specs.declared.limits.TheConstants.{SLOTS, OPEN_FILES}
 use Rattle.user_db.specs.declared.boot.Boot.{Boot}
 use Rattle.call_words.specs.declared.event.Event.{Event}
 use Rattle.call_words.specs.declared.event.How.{How}
 use Rattle.system_model.specs.State.{NamedFile, OpenFile, State, View, view, boot}
-use Rattle.system_model.specs.Parts.{Target, node, read_end, write_end, tty, Parts}
+use Rattle.system_model.specs.Parts.{Target, node, read_end, write_end, tty}
 use Rattle.fd_table.specs.Shared.{drop_number, last_file, count_files}
 use Rattle.pipe_core.specs.Pipes.{remove}
 use Rattle.line_disc.specs.Device.{close_last}
@@ -26,7 +26,7 @@ use Rattle.system_model.specs.Endings.{endings, endings_of}
 use Rattle.system_model.specs.Step.{row, effects_of, view_after, step}
 use Rattle.system_laws.specs.Stands.{IsEarlier, AreEarlier, Within, Stands}
 use Rattle.system_laws.proofs.FileSteps.{NoneLater}
-use Rattle.system_laws.proofs.Openings.{opens_file, is_calm, is_calm_process, NoOpen, no_effect, next_effect, Calm, calm_end, calm_next, calm-append, Ordered}
+use Rattle.system_laws.proofs.Openings.{is_calm, is_calm_process, NoOpen, no_effect, next_effect, Calm, calm_end, calm_next, calm-append, Ordered}
 use Rattle.system_laws.proofs.Openings.{open-append, open_endings_of}
 use Rattle.system_laws.proofs.EventOpenings.{ordered_row, ordered_done}
 use Rattle.system_laws.proofs.SeenSteps.{view_tag, later_tag, earlier_tag}

@@ -1,7 +1,7 @@
 -- What calls see of a state steps as the state does.
-use Rattle.std.proofs.Common.{◌≡◌, ℕ, zero, suc, ◌≤◌, ◌<◌, Bool, true, false, cond, ◌⊎◌, inl, inr, List, [], ◌∷◌, ◌++◌, refl, sym, ap, ◌∙◌, arith}
+use Rattle.std.proofs.Common.{◌≡◌, ℕ, zero, suc, ◌≤◌, ◌<◌, Bool, true, false, cond, ◌⊎◌, inl, inr, List, [], ◌∷◌, refl, arith}
 use Rattle.std.specs.Prelude.{◌==◌, Option, Some, None, option_map, slice_set}
-use Rattle.system_model.specs.State.{Revokes, last_revoke, is_revoked, NamedFile, Tagged, State, View, view}
+use Rattle.system_model.specs.State.{Revokes, last_revoke, is_revoked, NamedFile, Tagged, State, view}
 use Rattle.system_model.specs.Parts.{Target, node, read_end, write_end, tty, Parts}
 use Rattle.fd_table.specs.declared.open.Descriptor.{Descriptor}
 use Rattle.fd_table.specs.Shared.{Table, entry_at, descriptor_at, references, lowest_entry, files_after, change_in, drop_number, last_file, count_files}

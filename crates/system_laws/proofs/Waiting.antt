@@ -1,12 +1,11 @@
 -- An idle try sleeps and changes nothing.
-use Rattle.std.proofs.Common.{◌≡◌, ℕ, Bool, true, false, List, [], ◌∷◌, ◌++◌, refl, ap, sym, ◌∙◌}
+use Rattle.std.proofs.Common.{◌≡◌, ℕ, Bool, true, false, [], ◌∷◌, ◌++◌, refl, ap, ◌∙◌}
 use Rattle.std.specs.Prelude.{Option, Some, None, is_some, if◌then◌else◌}
 use Rattle.call_words.specs.declared.event.Event.TheVariants as event
 use Rattle.call_words.specs.declared.event.Reason.{Reason}
-use Rattle.call_words.specs.declared.event.Decision.TheVariants.{Sleep}
 use Rattle.proc_table.specs.Processes.{pending_at}
 use Rattle.system_model.specs.State.{View}
-use Rattle.system_model.specs.Effects.{Effect, change_all}
+use Rattle.system_model.specs.Effects.{change_all}
 use Rattle.system_model.specs.Rows.{refused, early, asleep, Check, first, effects_by, decision_by}
 use Rattle.system_model.specs.Endings.{endings_of}
 use Rattle.system_model.specs.Step.{row, answer_to, view_after, is_idle_check, reason_of_check, waits, is_idle}
@@ -35,6 +34,25 @@ idle-try v slot nobody pends idle =
           ∙ ap (change_all v) (no-endings v nobody);
     }
 
+-- a slot that waits has a pending call, of which another try would be idle
+reason-idle : (o : Option Check) (reason : Reason) → reason_of_check o ≡ Some reason → is_idle_check o ≡ true
+reason-idle None reason is = cc
+reason-idle (Some (refused rule, es)) reason is = cc
+reason-idle (Some (early given, es)) reason is = cc
+reason-idle (Some (asleep other, [])) reason is = refl
+reason-idle (Some (asleep other, e ∷ es)) reason is = cc
+
+waits-idle : (v : View) (slot : ℕ) (reason : Reason) → waits v slot ≡ Some reason → (is_some (pending_at v.processes slot) ≡ true) × (is_idle v slot ≡ true)
+unfolding waits
+waits-idle v slot reason is = by_pending (is_some (pending_at v.processes slot)) is
+  where
+    o : Option Check
+    o = first (row v (event.Again slot)).checks
+
+    by_pending : (b : Bool) → (if b then reason_of_check o else None) ≡ Some reason → (b ≡ true) × (is_idle_check o ≡ true)
+    by_pending true same = (refl, reason-idle o reason same)
+    by_pending false never = cc
+
 -- the law of who waits, where nobody is still to be ended, as between events
 pub waiting : (v : View) → v.ending ≡ [] → Waits v
-waiting v nobody = record { idle = λ slot pends idle. idle-try v slot nobody pends idle }
+waiting v nobody = record { idle = λ slot pends idle. idle-try v slot nobody pends idle; only = waits-idle v }

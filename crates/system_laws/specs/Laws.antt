@@ -1,6 +1,7 @@
 -- Laws of a run: of each of its events, with the state before it and its position.
-use Rattle.std.specs.Prelude.{◌≡◌, ◌⊎◌, ℕ, Bool, true, false, List, [], ◌∷◌, Option, Some, None, is_some, slice_get, ◌==◌, if◌then◌else◌}
+use Rattle.std.specs.Prelude.{◌≡◌, ◌⊎◌, ℕ, ◌+◌, ◌<◌, Bool, true, false, List, [], Option, Some, None, is_some, slice_get, ◌==◌, if◌then◌else◌}
 use Rattle.std.specs.List.{list_all, list_any}
+use Rattle.sys_types.specs.declared.limits.TheConstants.{SLOTS}
 use Rattle.sys_types.specs.declared.sig.Sig.{Sig}
 use Rattle.sys_types.specs.declared.sig.Sig.TheVariants as sig
 use Rattle.sys_types.specs.declared.rules.Rule.{Rule}
@@ -23,8 +24,8 @@ use Rattle.tree_model.specs.Paths.{path_at}
 use Rattle.proc_table.specs.Processes.{Process, is_stopped, running_at, pending_at}
 use Rattle.system_model.specs.Parts.{Path}
 use Rattle.system_model.specs.State.{last_revoke, OpenFile, State, View, view}
-use Rattle.system_model.specs.ProcessEffects.{ProcessEffect, set_process, fork_process, reap_child, set_pending, tell, post, add_ending, bury, clear_ending}
-use Rattle.system_model.specs.Effects.{Effect, on_files, on_pipes, on_lines, on_tree, on_processes, halt, tag_all, change_all}
+use Rattle.system_model.specs.ProcessEffects.{ProcessEffect, set_pending, post}
+use Rattle.system_model.specs.Effects.{Effect, on_files, on_pipes, on_lines, on_tree, on_processes, halt, change_all}
 use Rattle.system_model.specs.Rows.{Given, refused, early, asleep, answer_of, first, done}
 use Rattle.system_model.specs.LineEffects.{LineEffect, open_line, receive_byte, read_line, write_line, take_output, set_carrier, end_line, revoke_line}
 use Rattle.system_model.specs.LineEffects.{flush_line, retune_line, set_session, set_foreground}
@@ -189,12 +190,16 @@ pub data IsRevokedBy (v : View) (e : Event) (n : ℕ) : Type 0 where
       → ((caller_of (before_ending v e place) slot).pid == (caller_of (before_ending v e place) slot).session) ≡ true
       → line_of_session (before_ending v e place) (caller_of (before_ending v e place) slot).session ≡ Some n → IsRevokedBy v e n
 
--- The position that a state keeps of a line's last revoke is that of the last event that revoked it.
+-- The position that a state keeps of a line's last revoke is that of the last event that revoked it. Each answered call of revoke(2) whose path leads to
+-- the line's node revokes it, and each end of a process that leads the line's session; there are at most 32 endings.
 pub record MarksRevokes (s : State) (p : ℕ) (e : Event) : Type 0 where
   pub marks : (n : ℕ) → last_revoke (step s p e).0.revokes n ≡ (if revokes_line (view s) e n then p else last_revoke s.revokes n)
   pub only : (n : ℕ) → revokes_line (view s) e n ≡ true → IsRevokedBy (view s) e n
   pub calls : (slot n : ℕ) (path : List ℕ) → asks_call (view s) e slot (call.Revoke path) → (step s p e).1 ≡ Answer (Num 0)
       → tty_of_node (node_at (view s) (path_at (end_of (view s) slot path))) ≡ Some n → revokes_line (view s) e n ≡ true
+  pub ends : (place slot n : ℕ) (why : How) → place < SLOTS → slice_get (before_ending (view s) e place).ending place ≡ Some (slot, why)
+      → ((caller_of (before_ending (view s) e place) slot).pid == (caller_of (before_ending (view s) e place) slot).session) ≡ true
+      → line_of_session (before_ending (view s) e place) (caller_of (before_ending (view s) e place) slot).session ≡ Some n → revokes_line (view s) e n ≡ true
 
 -- ---- who waits
 
@@ -207,3 +212,10 @@ pub record IsIdleTry (v : View) (slot : ℕ) : Type 0 where
 
 pub record Waits (v : View) : Type 0 where
   pub idle : (slot : ℕ) → is_some (pending_at v.processes slot) ≡ true → is_idle v slot ≡ true → IsIdleTry v slot
+  pub only : (slot : ℕ) (reason : Reason) → waits v slot ≡ Some reason → (is_some (pending_at v.processes slot) ≡ true) × (is_idle v slot ≡ true)
+
+-- ---- endings
+
+-- All whom an event ends are ended: with more endings than there are slots nobody more would be.
+pub record EndsAll (s : State) (p : ℕ) (e : Event) : Type 0 where
+  pub enough : (more : ℕ) → let now = change_all (view s) (done (row (view s) e)) in endings (SLOTS + more) 0 now ≡ endings SLOTS 0 now

@@ -1,14 +1,14 @@
 -- The blocks of lines and pipes: how many are free, and what a call on the one leaves to the others.
-use Rattle.std.proofs.Common.{◌≡◌, ℕ, ◌+◌, ◌-◌, ◌*◌, Bool, List, [], ◌∷◌, ◌++◌, length, map, Option, Some, None, cond, refl, sym, ap, ◌∙◌, arith}
-use Rattle.std.specs.Prelude.{is_some, count_by, option_map}
+use Rattle.std.proofs.Common.{◌≡◌, ℕ, ◌+◌, ◌-◌, ◌*◌, List, [], ◌∷◌, ◌++◌, length, map, Option, Some, None, cond, refl, sym, ap, ◌∙◌, arith}
+use Rattle.std.specs.Prelude.{◌<◌, ◌≤◌, is_some, is_none, count_by, option_map}
 use Rattle.std.proofs.lemmas.List.{length-append}
 use Rattle.std.proofs.lemmas.List.Sums.{sum_by-cons}
-use Rattle.sys_types.specs.declared.limits.TheConstants.{POOL_BLOCKS, LINE_BLOCKS, PIPE_BLOCKS}
+use Rattle.sys_types.specs.declared.limits.TheConstants.{PIPES, POOL_BLOCKS, LINE_BLOCKS, PIPE_BLOCKS}
 use Rattle.block_pool.specs.Pool.{PoolState, AreOf}
 use Rattle.block_pool.specs.Chain.{ChainState}
-use Rattle.block_pool.proofs.LeaseLemmas.{leased_part, length_all_leased, all_rearranged, leased_rearranged, times_swapped, leased_all}
-use Rattle.pipe_core.specs.Pipes.{Pipes, map_pipes}
-use Rattle.pipe_core.specs.Chains.{bytes_of, blocks_of, KeepsPipes}
+use Rattle.block_pool.proofs.LeaseLemmas.{leased_part, length_leased, length_all_leased, all_rearranged, leased_rearranged, times_swapped, leased_all}
+use Rattle.pipe_core.specs.Pipes.{Pipes, free_pipes}
+use Rattle.pipe_core.specs.Chains.{blocks_of, KeepsPipes}
 use Rattle.pipe_core.proofs.OwnerLemmas.{bytes-same}
 use Rattle.pipe_core.proofs.OwnerLemmas as owner
 use Rattle.tty_dev.specs.Line.{LineState}
@@ -16,7 +16,7 @@ use Rattle.tty_dev.specs.Table.{devices, lines_held, KeepsLines}
 use Rattle.tty_dev.proofs.TableLemmas.{devices_same, size_of_all}
 use Rattle.system_model.specs.Looks.{is_open_line, free_blocks}
 use Rattle.system_model.specs.Tables.{Tables, seen_pipes, view_of}
-use Rattle.system_model.specs.Fit.{FitBlocks}
+use Rattle.system_model.specs.Fit.{FitBlocks, FitPool}
 
 -- the blocks of the lines are of the pool, and so are those of the pipes
 pub lines_of_pool : (pool : PoolState) (pipes : Pipes ChainState) (lines : List LineState) → FitBlocks pool pipes lines → AreOf pool (lines_held lines)
@@ -96,3 +96,29 @@ free_seen t fit =
     (ap (λ n. length t.pool.free + n) (sym (length-append (lines_held t.lines) (blocks_of t.pipes)))
     ∙ length_all_leased t.pool (lines_held t.lines ++ blocks_of t.pipes) fit.all)
     (size_of_all t.pool t.lines fit.lines) (owner.size_of_all t.pipes fit.pipes)
+
+-- where lines and pipes have their blocks the pipes have theirs
+pub pool_fits : (pool : PoolState) (pipes : Pipes ChainState) (lines : List LineState) → FitBlocks pool pipes lines → FitPool pool pipes
+pool_fits pool pipes lines fit = record { size = fit.size; of_pool = pipes_of_pool pool pipes lines fit; pipes = fit.pipes }
+
+few-pipes : (free blocks all there none : ℕ) → all ≡ 512 → free + blocks ≤ all → blocks ≡ 32 * there → there + none ≡ 16 → 32 ≤ free → 0 < none
+few-pipes free blocks all there none whole sum ps places room = omega arith
+
+there-or-none : {P : Type 0} (pipes : List (Option P)) → count_by is_some pipes + count_by is_none pipes ≡ length pipes
+there-or-none [] = refl
+there-or-none {P} (x ∷ pipes) =
+    let some = sum_by-cons (λ (o : Option P). cond (is_some o) 1 0) x pipes in
+    let none = sum_by-cons (λ (o : Option P). cond (is_none o) 1 0) x pipes in
+    let rest = there-or-none pipes in
+    let one = one-of x in
+    omega (arith, some, none, rest, one)
+  where
+    one-of : (o : Option P) → cond (is_some o) 1 0 + cond (is_none o) 1 0 ≡ 1
+    one-of None = refl
+    one-of (Some p) = refl
+
+-- where 32 blocks are free a number of a pipe is free too
+pub number_free : (pool : PoolState) (pipes : Pipes ChainState) → FitPool pool pipes → length pipes ≡ PIPES → 32 ≤ length pool.free → 0 < free_pipes pipes
+number_free pool pipes fit places room =
+    few-pipes (length pool.free) (length (blocks_of pipes)) (length pool.blocks) (count_by is_some pipes) (free_pipes pipes) fit.size
+    (length_leased pool (blocks_of pipes) fit.of_pool) (owner.size_of_all pipes fit.pipes) (there-or-none pipes ∙ places) room

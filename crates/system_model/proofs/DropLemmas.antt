@@ -12,14 +12,14 @@ use Rattle.fd_table.specs.declared.open.Open.{Open}
 use Rattle.fd_table.specs.declared.open.Descriptor.{Descriptor}
 use Rattle.fd_table.specs.declared.open.Target.{Target as KernelTarget}
 use Rattle.fd_table.specs.declared.open.Target.TheVariants.{File as FileOf, PipeRead, PipeWrite, Line}
-use Rattle.fd_table.specs.Shared.{Shared, Table, row_of, descriptor_at, put, references, entry_at, files_after, unreferenced, file_at, drop_number, last_file, holds, count_files}
+use Rattle.fd_table.specs.Shared.{Shared, Table, descriptor_at, put, references, entry_at, files_after, unreferenced, file_at, drop_number, last_file, holds, count_files}
 use Rattle.fd_table.specs.Calls.{close}
 use Rattle.pipe_core.specs.Pipes.{Pipes, is_there}
 use Rattle.proc_table.specs.Processes.{Processes}
 use Rattle.tree_model.specs.Tree.{NodeAt}
 use Rattle.tty_dev.specs.History.{Counts, at_first, closes, after_use}
 use Rattle.tty_dev.specs.Table.{count_at, use_line, is_dead_at}
-use Rattle.system_model.specs.Tables.{generations, generation_at, is_dead_target}
+use Rattle.system_model.specs.Tables.{generations, generation_at}
 use Rattle.system_model.specs.Fit.{is_end_of, is_live_file, FitFiles, FitSlots, FitPipes, FitLines}
 use Rattle.system_model.specs.Closing.{has_no_end, IsReleasable, is_there_after, counts_after}
 use Rattle.system_model.proofs.ClosingLemmas.{generations_after, generation_seen, last_of, left_of}

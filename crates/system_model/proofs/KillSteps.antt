@@ -8,7 +8,7 @@ use Rattle.proc_table.specs.Kills.{post_to_each}
 use Rattle.system_model.specs.Parts.{Path}
 use Rattle.system_model.specs.State.{View}
 use Rattle.system_model.specs.ProcessEffects.{post, after_post, change_processes}
-use Rattle.system_model.specs.Effects.{Effect, on_processes, change, change_all}
+use Rattle.system_model.specs.Effects.{on_processes, change, change_all}
 use Rattle.system_model.specs.SignalCalls.{post_each}
 
 post-step : (v : View) (signal : Sig) (pid : ℕ)

@@ -12,3 +12,9 @@ pub mod ClosingLemmas
 pub mod DropLemmas
 pub mod FileLooks
 pub mod KillSteps
+pub mod SeenLines
+pub mod PostLemmas
+pub mod SeenPosts
+pub mod BackgroundRows
+pub mod NodeFits
+pub mod VerdictRows

@@ -1,5 +1,5 @@
 -- What calls see where the nodes change: open files and working directories are as they were where what they are of has the same path.
-use Rattle.std.proofs.Common.{◌≡◌, ℕ, List, Option, Some, refl, sym, ap, ◌∙◌}
+use Rattle.std.proofs.Common.{◌≡◌, ℕ, List, Option, Some, refl}
 use Rattle.fd_table.specs.declared.open.Open.{Open}
 use Rattle.fd_table.specs.declared.open.Target.TheVariants.{File as FileOf}
 use Rattle.fd_table.specs.Shared.{Shared, entry_at}

@@ -1,19 +1,18 @@
 -- Calls on paths and nodes, over the tables of a kernel: what the checks of paths and rights come to, and how a call on the node of a path does its row.
 use Rattle.std.proofs.Common.{◌≡◌, ℕ, List, [], ◌∷◌, Option, Some, None, refl, sym, ap, subst, ◌∙◌}
-use Rattle.sys_types.specs.declared.node.Kind.{Kind}
 use Rattle.sys_types.specs.declared.rules.Rule.{Rule}
 use Rattle.call_words.specs.declared.event.Decision.{Decision}
 use Rattle.call_words.specs.declared.event.Decision.TheVariants.{Answer}
 use Rattle.call_words.specs.declared.event.Reply.TheVariants.{Denied}
-use Rattle.tree_model.specs.Tree.{NodeRecord, WalkEnd, at_path, nodes_from, walk}
+use Rattle.tree_model.specs.Tree.{WalkEnd, at_path, nodes_from, walk}
 use Rattle.tree_model.specs.Numbers.{path_of}
 use Rattle.tree_model.specs.Paths.{path_rule, node_rule, path_at}
 use Rattle.proc_table.specs.Processes.{Process, running_at}
 use Rattle.system_model.specs.Parts.{Path}
 use Rattle.system_model.specs.State.{View}
 use Rattle.system_model.specs.Rows.{Row, behind, deny_by, Does}
-use Rattle.system_model.specs.Looks.{caller_of, path_check, node_check, end_of, on_node, node_at}
-use Rattle.system_model.specs.Tables.{Tables, seen_process, view_of}
+use Rattle.system_model.specs.Looks.{path_check, node_check, end_of, on_node, node_at}
+use Rattle.system_model.specs.Tables.{Tables, view_of}
 use Rattle.system_model.proofs.RowLemmas.{front_refuses, front_passes}
 use Rattle.system_model.proofs.SeenProcesses.{caller_seen}
 

@@ -1,13 +1,13 @@
 -- How a call is shown to do what its row says: by the first of its checks that holds, or by its effects where none does.
-use Rattle.std.proofs.Common.{◌≡◌, List, [], ◌∷◌, Option, Some, None, refl, sym, ap, ◌∙◌}
+use Rattle.std.proofs.Common.{◌≡◌, List, [], ◌∷◌, ◌++◌, Option, Some, None, refl, sym, ap, ◌∙◌}
 use Rattle.sys_types.specs.declared.rules.Rule.{Rule}
 use Rattle.call_words.specs.declared.event.Decision.{Decision}
 use Rattle.call_words.specs.declared.event.Decision.TheVariants.{Answer, Sleep}
 use Rattle.call_words.specs.declared.event.Reason.{Reason}
 use Rattle.call_words.specs.declared.event.Reply.TheVariants.{Denied}
 use Rattle.system_model.specs.State.{View}
-use Rattle.system_model.specs.Effects.{Effect, change_all}
-use Rattle.system_model.specs.Rows.{Given, Check, refused, early, asleep, Row, behind, first, decision_by, decision_of, answer_of, effects_by, done, Does}
+use Rattle.system_model.specs.Effects.{change_all}
+use Rattle.system_model.specs.Rows.{Given, Check, refused, early, asleep, Row, behind, first, decision_by, decision_of, answer_of, effects_by, Does}
 
 -- ---- the checks of a row
 
@@ -18,6 +18,17 @@ stops o cs c e = rw e refl
 -- one that does not hold leaves it to the next
 pub passes : (o : Option Check) (cs : List (Option Check)) → o ≡ None → first (o ∷ cs) ≡ first cs
 passes o cs e = rw e refl
+
+-- checks before others: one of them holds, or none does
+pub first_held : (checks more : List (Option Check)) (c : Check) → first checks ≡ Some c → first (checks ++ more) ≡ Some c
+first_held [] more c is = absurd cc
+first_held (None ∷ checks) more c is = first_held checks more c is
+first_held (Some x ∷ checks) more c is = is
+
+pub first_free : (checks more : List (Option Check)) → first checks ≡ None → first (checks ++ more) ≡ first more
+first_free [] more none = refl
+first_free (None ∷ checks) more none = first_free checks more none
+first_free (Some x ∷ checks) more none = absurd cc
 
 -- ---- a row
 
@@ -57,4 +68,16 @@ pub front_passes : (old new : View) (d : Decision) (check : Option Check) (row :
 front_passes old new d check row e does = record {
   state = does.state ∙ ap (λ o. change_all old (effects_by o row.effects)) (sym (passes check row.checks e));
   answer = does.answer ∙ ap (λ o. decision_by o row.answer) (sym (passes check row.checks e));
+}
+
+-- checks in front of a row: one of them refuses, or none holds
+pub checks_refuse : (v : View) (checks : List (Option Check)) (row : Row) (rule : Rule) → first checks ≡ Some (refused rule, [])
+    → Does v v (Answer (Denied rule)) (behind checks row)
+checks_refuse v checks row rule e = refuses v (behind checks row) rule (first_held checks row.checks (refused rule, []) e)
+
+pub checks_pass : (old new : View) (d : Decision) (checks : List (Option Check)) (row : Row) → first checks ≡ None → Does old new d row
+    → Does old new d (behind checks row)
+checks_pass old new d checks row e does = record {
+  state = does.state ∙ ap (λ o. change_all old (effects_by o row.effects)) (sym (first_free checks row.checks e));
+  answer = does.answer ∙ ap (λ o. decision_by o row.answer) (sym (first_free checks row.checks e));
 }

@@ -1,6 +1,6 @@
 -- What ends after an event: the processes that its signals and its exit put on a list are ended one after the other, and what that
 -- ends in turn joins the list (_exit(2), "Terminating a Process" of POSIX.1, 3.2.2).
-use Rattle.std.specs.Prelude.{ℕ, zero, suc, ◌+◌, Bool, true, false, ◌==◌, List, [], ◌∷◌, ◌++◌, length, filter, Option, Some, None, is_some, slice_get}
+use Rattle.std.specs.Prelude.{ℕ, zero, suc, ◌+◌, ◌==◌, List, [], ◌∷◌, ◌++◌, length, filter, Option, Some, None, is_some, slice_get}
 use Rattle.std.specs.Prelude.{if◌then◌else◌}
 use Rattle.std.specs.List.{range_with_len}
 use Rattle.sys_types.specs.declared.limits.TheConstants.{SLOTS, DESCRIPTORS}

@@ -1,5 +1,5 @@
 -- What events change of descriptors and open files (open(2), dup(2), fork(2), close(2), lseek(2)).
-use Rattle.std.specs.Prelude.{ℕ, Bool, true, false, ◌==◌, Option, Some, None, if◌then◌else◌}
+use Rattle.std.specs.Prelude.{ℕ, Bool, ◌==◌, Option, Some, None, if◌then◌else◌}
 use Rattle.fd_table.specs.Shared.{copy, fork, drop_number, last_file, change_file, count_files}
 use Rattle.fd_table.specs.Calls.{open_lowest}
 use Rattle.pipe_core.specs.Pipes.{remove}

@@ -1,10 +1,11 @@
 -- When the tables of a kernel fit together. Each call and each event keeps this.
 use Rattle.std.specs.List.{All}
-use Rattle.std.specs.Prelude.{◌≡◌, ℕ, ◌+◌, if◌then◌else◌, ◌≤◌, ◌<◌, Bool, true, false, not, ◌==◌, ◌&&◌, List, ◌++◌, length, Option, Some, is_some, option_map, slice_index_or, count_by}
+use Rattle.std.specs.Prelude.{◌≡◌, ℕ, ◌+◌, if◌then◌else◌, ◌≤◌, ◌<◌, Bool, true, false, not, ◌==◌}
+use Rattle.std.specs.Prelude.{◌&&◌, List, [], ◌++◌, length, Option, Some, is_some, option_map, slice_index_or}
 use Rattle.sys_types.specs.declared.limits.TheConstants.{SLOTS, LINES, RAW_LINE, PIPES, POOL_BLOCKS}
 use Rattle.sys_types.specs.declared.node.Kind.{Kind}
 use Rattle.sys_types.specs.declared.node.Kind.TheVariants as kind
-use Rattle.block_pool.specs.Pool.{PoolState, AreAllOf}
+use Rattle.block_pool.specs.Pool.{PoolState, AreOf, AreAllOf}
 use Rattle.block_pool.specs.Chain.{ChainState}
 use Rattle.fd_table.specs.declared.open.Open.{Open}
 use Rattle.fd_table.specs.declared.open.Target as kept
@@ -19,9 +20,9 @@ use Rattle.tty_dev.specs.Line.{LineState}
 use Rattle.tty_dev.specs.History.{Counts}
 use Rattle.tty_dev.specs.Table as line
 use Rattle.tty_dev.specs.Table.{counts_of, boots_of, count_at, lines_held}
-use Rattle.proc_table.specs.Processes.{Process, Processes, process_at, running_at}
+use Rattle.proc_table.specs.Processes.{Process, Processes, is_running, process_at, running_at}
 use Rattle.tree_model.specs.Tree.{NodeAt, NodeRecord, at_path, nodes_from, is_dir_record}
-use Rattle.tree_model.specs.Numbers.{IsFile, record_of}
+use Rattle.tree_model.specs.Numbers.{IsFile, path_of, record_of}
 use Rattle.system_model.specs.Looks.{tty_path}
 use Rattle.system_model.specs.Tables.{Tables, generations, generation_at, is_dead_target}
 
@@ -32,9 +33,16 @@ kind_of what = option_map (λ n. n.kind) what
 pub record FitFiles (nodes : List (Option NodeAt)) (d : Shared Open) : Type 0 where
   pub live : (entry number : ℕ) (f : Open) → entry_at d.files entry ≡ Some f → f.target ≡ FileOf number → IsFile nodes number
 
--- Each process's working directory is a live directory.
+-- The node of number 0 is the root.
+pub record HasRoot (nodes : List (Option NodeAt)) : Type 0 where
+  pub path : path_of nodes 0 ≡ []
+  pub directory : is_dir_record (record_of nodes 0) ≡ true
+
+-- Each process's working directory is a live directory, and that of a zombie is the root.
 pub record FitDirectories (nodes : List (Option NodeAt)) (processes : Processes ℕ) : Type 0 where
   pub live : (slot : ℕ) (p : Process ℕ) → process_at processes slot ≡ Some p → is_dir_record (record_of nodes p.directory) ≡ true
+  pub root : HasRoot nodes
+  pub zombies : (slot : ℕ) (p : Process ℕ) → process_at processes slot ≡ Some p → is_running p ≡ false → p.directory ≡ 0
 
 -- Each line's own node is there, and each node that is a line is one of a line that there is.
 pub record FitTree (nodes : List (Option NodeAt)) : Type 0 where
@@ -97,3 +105,9 @@ pub record Fit (t : Tables) : Type 0 where
 -- How often each line was revoked, with the revoke that the end of its session's leader may yet bring, is at most this: so no counter overflows.
 pub record AreRevokedAtMost (most : ℕ) (pool : PoolState) (devices : List LineState) : Type 0 where
   pub each : (n : ℕ) → (count_at (counts_of devices) n).generation + (if is_some (line_at (line.devices pool devices) n).session then 1 else 0) ≤ most
+
+-- The pipes have their blocks of a pool of 512, whatever the lines have.
+pub record FitPool (pool : PoolState) (queues : Pipes ChainState) : Type 0 where
+  pub size : length pool.blocks ≡ POOL_BLOCKS
+  pub of_pool : AreOf pool (blocks_of queues)
+  pub pipes : All pipe.HoldsBlocks queues

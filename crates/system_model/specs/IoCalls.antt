@@ -1,6 +1,6 @@
 -- The rows of read(2) and write(2).
-use Rattle.std.specs.Prelude.{ℕ, ◌+◌, ◌-◌, Bool, true, false, not, ◌&&◌, ◌||◌, ◌==◌, List, [], ◌∷◌, ◌++◌, length, take, Option, Some, None, is_none, nat_lt}
-use Rattle.std.specs.Prelude.{nat_le, option_map, unwrap_or, if◌then◌else◌}
+use Rattle.std.specs.Prelude.{ℕ, ◌+◌, ◌-◌, Bool, true, false, not, ◌&&◌, ◌==◌, List, [], ◌∷◌, ◌++◌, length, take, Option, Some, None, is_none, nat_lt}
+use Rattle.std.specs.Prelude.{option_map, unwrap_or, if◌then◌else◌}
 use Rattle.label_core.specs.declared.element.Element.{Element}
 use Rattle.label_core.specs.Element.{dom}
 use Rattle.sys_types.specs.declared.limits.TheConstants.{FILE_SPACE, PIECE_BYTES, PIPE_BYTES}
@@ -21,7 +21,7 @@ use Rattle.system_model.specs.PipeEffects.{put_pipe, take_pipe}
 use Rattle.system_model.specs.LineEffects.{read_line, write_line}
 use Rattle.system_model.specs.TreeEffects.{set_node}
 use Rattle.system_model.specs.ProcessEffects.{post}
-use Rattle.system_model.specs.Effects.{Effect, on_files, on_pipes, on_lines, on_tree, on_processes}
+use Rattle.system_model.specs.Effects.{on_files, on_pipes, on_lines, on_tree, on_processes}
 use Rattle.system_model.specs.Rows.{Check, Row, refused, check, deny, answer_if, wait_if, number, bytes, behind, no_row}
 use Rattle.system_model.specs.Looks.{caller_of, file_at, holds_of, node_at, dominates_node, node_dominates, line_of, termios_of, tty_path}
 use Rattle.system_model.specs.Background.{background_read, background_write}

@@ -26,3 +26,4 @@ pub mod Run
 pub mod Tables
 pub mod Fit
 pub mod Closing
+pub mod Verdicts

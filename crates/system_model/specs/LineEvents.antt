@@ -1,5 +1,5 @@
 -- The rows of what happens at a line: a byte, the carrier, a taking of output, the end of the other side (termios(4), tty(4)).
-use Rattle.std.specs.Prelude.{ℕ, Bool, true, false, not, ◌&&◌, List, [], ◌∷◌, ◌++◌, Option, Some, None, if◌then◌else◌}
+use Rattle.std.specs.Prelude.{ℕ, Bool, false, List, [], ◌∷◌, ◌++◌, Option, Some, None, if◌then◌else◌}
 use Rattle.std.specs.List.{list_all}
 use Rattle.sys_types.specs.declared.sig.Sig.{Sig}
 use Rattle.sys_types.specs.declared.sig.Sig.TheVariants as sig

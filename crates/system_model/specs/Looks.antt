@@ -1,8 +1,7 @@
 -- What the process that asks sees: itself, what its numbers and its paths lead to, and the lines.
-use Rattle.std.specs.Prelude.{ℕ, ◌+◌, ◌-◌, ◌*◌, Bool, true, false, not, ◌&&◌, ◌==◌, List, [], ◌∷◌, length, Option, Some, None, is_some, option_map}
-use Rattle.std.specs.Prelude.{option_and_then, unwrap_or, position, count_by, codes, if◌then◌else◌}
+use Rattle.std.specs.Prelude.{ℕ, ◌+◌, ◌-◌, ◌*◌, Bool, false, ◌==◌, List, [], ◌∷◌, length, Option, Some, None, is_some}
+use Rattle.std.specs.Prelude.{unwrap_or, position, count_by, codes, if◌then◌else◌}
 use Rattle.std.specs.Ordering.{eq_by_cmp}
-use Rattle.label_core.specs.declared.element.Element.{Element}
 use Rattle.sys_types.specs.declared.limits.TheConstants.{NODES, POOL_BLOCKS, LINE_BLOCKS, PIPE_BLOCKS, RAW_LINE}
 use Rattle.sys_types.specs.declared.node.Kind.{Kind}
 use Rattle.termios_core.specs.declared.termios.Termios.{Termios}
@@ -17,7 +16,7 @@ use Rattle.line_disc.specs.Discipline.{Discipline}
 use Rattle.line_disc.specs.Device.{Device}
 use Rattle.proc_table.specs.Groups.{is_number}
 use Rattle.proc_table.specs.Processes.{Process, first_process, running_at}
-use Rattle.system_model.specs.Parts.{Path, File}
+use Rattle.system_model.specs.Parts.{Path}
 use Rattle.system_model.specs.State.{OpenFile, View}
 use Rattle.line_disc.specs.Lines.{line_at}
 use Rattle.system_model.specs.Rows.{Check, Row, deny_by, behind}

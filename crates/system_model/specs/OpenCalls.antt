@@ -1,6 +1,6 @@
 -- The rows of the calls on descriptors: open(2), close(2), dup(2), dup2(2).
-use Rattle.std.specs.Prelude.{ℕ, Bool, true, false, not, ◌&&◌, ◌||◌, ◌==◌, List, [], ◌∷◌, ◌++◌, Option, Some, None, is_none, is_some, nat_le, nat_lt}
-use Rattle.std.specs.Prelude.{option_map, if◌then◌else◌}
+use Rattle.std.specs.Prelude.{ℕ, Bool, true, false, not, ◌&&◌, ◌||◌, ◌==◌, List, [], ◌∷◌, ◌++◌, Option, Some, None, is_none, nat_le, nat_lt}
+use Rattle.std.specs.Prelude.{if◌then◌else◌}
 use Rattle.sys_types.specs.declared.limits.TheConstants.{DESCRIPTORS, LINE_BLOCKS}
 use Rattle.sys_types.specs.declared.node.Kind.{Kind}
 use Rattle.sys_types.specs.declared.node.Kind.TheVariants as kind
@@ -11,7 +11,7 @@ use Rattle.call_words.specs.declared.open.OpenFlags.{OpenFlags}
 use Rattle.call_words.specs.Calls.{can_read, can_write}
 use Rattle.fd_table.specs.Shared.{lowest_number, free_numbers}
 use Rattle.fd_table.specs.Calls.{room_rule}
-use Rattle.tree_model.specs.Tree.{NodeRecord, WalkEnd, found, absent, missing, not_dir, name_long, path_long, is_file, is_dir_record}
+use Rattle.tree_model.specs.Tree.{NodeRecord, WalkEnd, found, absent, missing, not_dir, name_long, path_long, is_dir_record}
 use Rattle.tree_model.specs.Contents.{with_contents}
 use Rattle.system_model.specs.Parts.{Path, Target, node, tty, File}
 use Rattle.system_model.specs.State.{View}

@@ -1,5 +1,5 @@
 -- The row of pipe(2).
-use Rattle.std.specs.Prelude.{ℕ, true, false, List, [], ◌∷◌, nat_lt}
+use Rattle.std.specs.Prelude.{ℕ, true, false, [], ◌∷◌, nat_lt}
 use Rattle.sys_types.specs.declared.limits.TheConstants.{PIPE_BLOCKS}
 use Rattle.sys_types.specs.declared.rules.Rule.TheVariants.{Pool}
 use Rattle.fd_table.specs.Shared.{lowest_number}

@@ -1,7 +1,7 @@
 -- The rows of the calls on processes: fork(2), execve(2), _exit(2), wait4(2), setsid(2), setpgid(2), ps(1), reboot(2), and the first call
 -- of a process.
-use Rattle.std.specs.Prelude.{ℕ, Bool, true, false, not, ◌&&◌, ◌||◌, ◌==◌, List, [], ◌∷◌, ◌++◌, map, filter, filter_map, length, Option, Some, None, is_none}
-use Rattle.std.specs.Prelude.{is_some, Result, Ok, Err, option_map, option_and_then, unwrap_or, if◌then◌else◌, codes}
+use Rattle.std.specs.Prelude.{ℕ, Bool, true, false, not, ◌&&◌, ◌==◌, List, [], ◌∷◌, map, filter, Option, Some, None, is_none}
+use Rattle.std.specs.Prelude.{Result, Ok, Err, unwrap_or}
 use Rattle.std.specs.List.{find, range_with_len}
 use Rattle.std.specs.Result.{is_err}
 use Rattle.std.specs.Str.{bytes_eq}
@@ -16,7 +16,7 @@ use Rattle.call_words.specs.declared.event.How.TheVariants as how
 use Rattle.call_words.specs.declared.event.Reason.TheVariants as reason
 use Rattle.call_words.specs.declared.proc.WaitFlags.{WaitFlags}
 use Rattle.access_rule.specs.Access.{is_superuser}
-use Rattle.fd_table.specs.Shared.{Table, row_of, is_on_exec, descriptor_at}
+use Rattle.fd_table.specs.Shared.{Table, is_on_exec, descriptor_at}
 use Rattle.tree_model.specs.Tree.{NodeRecord, is_file}
 use Rattle.tree_model.specs.Listing.{names_text}
 use Rattle.tree_model.specs.Standard.{image_text}
@@ -32,7 +32,7 @@ use Rattle.system_model.specs.State.{View}
 use Rattle.system_model.specs.FileEffects.{close_fd, fork_fds}
 use Rattle.system_model.specs.ProcessEffects.{set_process, fork_process, reap_child, add_ending}
 use Rattle.system_model.specs.Effects.{Effect, on_files, on_processes, halt}
-use Rattle.system_model.specs.Rows.{Given, Check, Row, deny, deny_by, answer_if, sleep_if, number, child, image, text, noted, only}
+use Rattle.system_model.specs.Rows.{Given, Row, deny, answer_if, sleep_if, number, child, image, text, noted, only}
 use Rattle.system_model.specs.Looks.{caller_of, on_node, node_at, access_check}
 
 -- ---- begin, and execve(2)

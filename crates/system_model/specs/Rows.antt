@@ -1,6 +1,6 @@
 -- A row: for an event its checks in order, and what it does and answers where none of them holds. A check is a rule, a sleep or an early
 -- answer, with its condition; it may have effects of its own, as a read in the background sends TTIN before it sleeps.
-use Rattle.std.specs.Prelude.{◌≡◌, ℕ, Bool, true, false, List, [], ◌∷◌, ◌++◌, map, Option, Some, None, is_some, option_map, if◌then◌else◌}
+use Rattle.std.specs.Prelude.{◌≡◌, ℕ, Bool, List, [], ◌∷◌, ◌++◌, map, Option, Some, None, is_some, option_map, if◌then◌else◌}
 use Rattle.sys_types.specs.declared.rules.Rule.{Rule}
 use Rattle.sys_types.specs.declared.rules.Rule.TheVariants.{NotReady, Signal}
 use Rattle.sys_types.specs.declared.image.Image.{Image}

@@ -1,8 +1,6 @@
 -- The rows of the calls on signals: kill(2), sigaction(2), sigwait(2), pause(3).
-use Rattle.std.specs.Prelude.{ℕ, Bool, true, false, not, ◌&&◌, ◌||◌, ◌==◌, List, [], ◌∷◌, map, filter, filter_map, length, Option, Some, None, is_none}
-use Rattle.std.specs.Prelude.{if◌then◌else◌}
+use Rattle.std.specs.Prelude.{ℕ, true, List, [], ◌∷◌, map, Option, Some, None}
 use Rattle.sys_types.specs.declared.sig.Sig.{Sig}
-use Rattle.sys_types.specs.declared.sig.Sig.TheVariants as sig
 use Rattle.sys_types.specs.Signals.{sig_number}
 use Rattle.sys_types.specs.declared.rules.Rule.TheVariants.{SigFixed}
 use Rattle.call_words.specs.declared.event.Reason.TheVariants as reason

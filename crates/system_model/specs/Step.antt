@@ -1,5 +1,5 @@
 -- A step of the machine.
-use Rattle.std.specs.Prelude.{ℕ, Bool, true, false, not, ◌&&◌, ◌==◌, List, [], ◌∷◌, ◌++◌, length, filter, Option, Some, None, is_none, is_some, if◌then◌else◌}
+use Rattle.std.specs.Prelude.{ℕ, Bool, true, false, not, ◌&&◌, ◌==◌, List, [], ◌∷◌, ◌++◌, length, filter, Option, Some, None, is_some, if◌then◌else◌}
 use Rattle.std.specs.List.{range_with_len}
 use Rattle.sys_types.specs.declared.limits.TheConstants.{SLOTS, LINES, PIECE_BYTES}
 use Rattle.sys_types.specs.declared.rules.Rule.TheVariants.{Asleep, Awake}
@@ -18,7 +18,7 @@ use Rattle.system_model.specs.Parts.{Path}
 use Rattle.system_model.specs.State.{State, View, view}
 use Rattle.system_model.specs.ProcessEffects.{set_pending, tell}
 use Rattle.system_model.specs.Effects.{Effect, on_processes, tag_all, change_all}
-use Rattle.system_model.specs.Rows.{Outcome, refused, early, asleep, Check, Row, check, deny, answer_if, gone, behind, no_row, only, first, decision, done}
+use Rattle.system_model.specs.Rows.{refused, early, asleep, Check, Row, check, deny, answer_if, gone, behind, first, decision, done}
 use Rattle.system_model.specs.Rows.{ended_by}
 use Rattle.system_model.specs.OpenCalls.{open_row, close_row, dup_row, dup2_row}
 use Rattle.system_model.specs.IoCalls.{read_row, write_row}

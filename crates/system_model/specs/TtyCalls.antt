@@ -1,6 +1,6 @@
 -- The rows of the calls on terminal lines: tcsetsid(3), tcgetattr(3), tcsetattr(3), tcflush(3), tcdrain(3), tcsetpgrp(3), tcgetpgrp(3),
 -- fdevname(3), revoke(2).
-use Rattle.std.specs.Prelude.{ℕ, ◌+◌, Bool, true, false, not, ◌&&◌, ◌==◌, List, [], ◌∷◌, ◌++◌, Option, Some, None, is_none, is_some, option_and_then}
+use Rattle.std.specs.Prelude.{ℕ, Bool, true, false, not, ◌==◌, List, [], ◌∷◌, ◌++◌, Option, Some, None, is_none, is_some, option_and_then}
 use Rattle.std.specs.Prelude.{if◌then◌else◌, codes}
 use Rattle.sys_types.specs.declared.sig.Sig.TheVariants as sig
 use Rattle.sys_types.specs.declared.node.Kind.{Kind}
@@ -23,7 +23,7 @@ use Rattle.system_model.specs.State.{OpenFile, View}
 use Rattle.system_model.specs.LineEffects.{revoke_line, flush_line, retune_line, set_session, set_foreground}
 use Rattle.system_model.specs.ProcessEffects.{post}
 use Rattle.system_model.specs.Effects.{Effect, on_lines, on_processes}
-use Rattle.system_model.specs.Rows.{Check, Row, deny, answer_if, sleep_if, number, text, behind, no_row, only}
+use Rattle.system_model.specs.Rows.{Check, Row, deny, sleep_if, number, text, behind, no_row, only}
 use Rattle.system_model.specs.Looks.{caller_of, file_at, holds_of, on_node, node_at, node_dominates, is_not_owner, line_of, termios_of, has_session}
 use Rattle.system_model.specs.Looks.{line_of_session}
 use Rattle.system_model.specs.Background.{background_write}

@@ -5,12 +5,16 @@
 //! change; and the rows (for each event its ordered checks, its effects and its answer). Beside them stand the tables of a kernel,
 //! what calls see of them, and when they fit together; `proofs/` shows what each change of a table makes of what calls see.
 //!
-//! What all calls share stands here too, since no chain of crates is longer than eight: the process that asks, and the close of a
-//! descriptor.
+//! What all calls share stands here too, since no chain of crates is longer than eight: the process that asks, the close of a
+//! descriptor, what the checks of a call come to, and those of the background of a terminal.
 #![tactic(auto)]
 
+mod background;
 mod callers;
 mod closing;
+mod verdict;
 
+pub use background::{background_read, background_write};
 pub use callers::caller;
 pub use closing::{close_fd, release};
+pub use verdict::{Verdict, post, settle, sleep_verdict};

@@ -1,4 +1,4 @@
-use Rattle.std.proofs.Common.{◌≡◌, Some, Ok, refl, sym, ap, ◌∙◌}
+use Rattle.std.proofs.Common.{Some, Ok, refl, sym, ap, ◌∙◌}
 use Rattle.fd_table.specs.Shared.{last_file, drop_number}
 use Rattle.system_model.specs.FileEffects.{release_target}
 use Rattle.system_model.specs.Keeping.{seeing}
