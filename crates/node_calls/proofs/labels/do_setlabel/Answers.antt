@@ -1,0 +1,64 @@
+use Rattle.std.proofs.Common.{true, false, refl, sym, ap, ◌∙◌}
+use Rattle.proc_table.specs.Procs.{process_of}
+use Rattle.proc_table.specs.Processes.{running_at}
+use Rattle.sys_types.specs.declared.rules.Rule.TheVariants.{Owner, Relabel}
+use Rattle.tree_model.specs.Attributes.{with_element}
+use Rattle.system_model.specs.AttrCalls.{setlabel_at}
+use Rattle.system_model.specs.Tables.{view_of}
+use Rattle.node_calls.proofs.Kept.{changed_files, changed_directories, changed_lines}
+use Rattle.node_calls.proofs.NodeAsked.{asks, owner_seen, relabels_seen, refuses_there, goes_on_there, changes_there}
+use Rattle.system_model.proofs.FitLemmas.{directory_live}
+use Rattle.system_model.proofs.NodeRows.{node_denies}
+use Rattle.node_calls.proofs.labels.do_setlabel.Goals as goal
+
+pub find_node-requires : goal.find_node-requires
+find_node-requires c = directory_live c.args.tree.now c.args.procs.now c.args.slot
+    (process_of c.caller-who.result.now) c.requires.directories c.caller-who.ensures
+
+pub returns-in-Err-clause-does : goal.returns-in-Err-clause-does
+returns-in-Err-clause-does c = λ t nodes processes.
+    rw (c.denied.ensures, ← nodes)
+    (node_denies t c.args.slot (process_of c.caller-who.result.now) c.args.path.now (setlabel_at (view_of t) c.args.slot c.args.element.now) c.in-Err.rule
+    (ap (λ ps. running_at ps c.args.slot) processes ∙ c.caller-who.ensures)
+    (rw nodes c.in-Err.ensures))
+
+pub returns-then-not-is_owner-clause-does : goal.returns-then-not-is_owner-clause-does
+returns-then-not-is_owner-clause-does c = λ t nodes processes.
+    let a =
+    asks t c.args.tree.now c.args.procs.now c.args.slot (process_of c.caller-who.result.now) c.args.path.now c.in-Ok.node nodes processes c.caller-who.ensures
+    c.in-Ok.ensures in
+    let own = owner_seen a true c.is_owner.ensures.map c.if-not-is_owner.ensures.owner in
+    rw (c.denied-then-not-is_owner.ensures, ← nodes) (refuses_there a (setlabel_at (view_of t) c.args.slot c.args.element.now) Owner (rw own refl))
+
+pub returns-then-not-relabels-clause-does : goal.returns-then-not-relabels-clause-does
+returns-then-not-relabels-clause-does c = λ t nodes processes.
+    let a =
+    asks t c.args.tree.now c.args.procs.now c.args.slot (process_of c.caller-who.result.now) c.args.path.now c.in-Ok.node nodes processes c.caller-who.ensures
+    c.in-Ok.ensures in
+    let own = owner_seen a false c.is_owner.ensures.map c.if-not-is_owner.ensures.owner in
+    let outside = relabels_seen a c.args.element.now true c.is_owner.ensures.map (sym c.if-not-relabels.true ∙ c.relabels.ensures) in
+    rw (c.denied-then-not-relabels.ensures, ← nodes) (refuses_there a (setlabel_at (view_of t) c.args.slot c.args.element.now) Relabel (rw (own, outside) refl))
+
+pub returns-clause-files : goal.returns-clause-files
+returns-clause-files c = changed_files (with_element c.args.element.now) c.args.tree.now _ c.in-Ok.node (λ r. refl) c.set_element.ensures.set
+
+pub returns-clause-directories : goal.returns-clause-directories
+returns-clause-directories c =
+    changed_directories (with_element c.args.element.now) c.args.tree.now _ c.in-Ok.node
+    (λ r. refl) c.set_element.ensures.set c.args.procs.now c.requires.directories
+
+pub returns-clause-tree : goal.returns-clause-tree
+returns-clause-tree c =
+    changed_lines (with_element c.args.element.now) c.args.tree.now _ c.in-Ok.node
+    (λ r. refl) c.set_element.ensures.set c.set_element.ensures.map c.set_element.ensures.node
+
+pub returns-clause-does : goal.returns-clause-does
+returns-clause-does c = λ t nodes processes.
+    let a =
+    asks t c.args.tree.now c.args.procs.now c.args.slot (process_of c.caller-who.result.now) c.args.path.now c.in-Ok.node nodes processes c.caller-who.ensures
+    c.in-Ok.ensures in
+    let own = owner_seen a false c.is_owner.ensures.map c.if-not-is_owner.ensures.owner in
+    let outside = relabels_seen a c.args.element.now false c.is_owner.ensures.map (sym c.if-not-relabels.false ∙ c.relabels.ensures) in
+    rw c.nothing.ensures
+    (goes_on_there a _ (setlabel_at (view_of t) c.args.slot c.args.element.now) (rw (own, outside) refl)
+    (changes_there a _ (with_element c.args.element.now) (λ r. refl) c.set_element.ensures.set c.set_element.ensures.map c.set_element.ensures.node))
