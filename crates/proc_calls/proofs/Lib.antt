@@ -1,0 +1,14 @@
+pub mod Keeping
+pub mod Changes
+pub mod Endings
+pub mod Members
+pub mod Caught
+pub mod Verdicts
+pub mod Asking
+pub mod Waits
+pub mod Kills
+pub mod Waiting
+pub mod Posting
+pub mod Groups
+pub mod Joining
+pub mod Forking

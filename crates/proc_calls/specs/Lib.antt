@@ -1,0 +1,3 @@
+pub mod Verdicts
+pub mod Halting
+pub mod Joining
