@@ -9,7 +9,7 @@ ghost use Rattle.pipe_core.specs.Pipes.{Pipes};
 ghost use Rattle.proc_table.specs.Posts as posts;
 ghost use Rattle.tree_model.specs.Tree.{NodeAt};
 ghost use Rattle.tty_dev.specs.Table.{counts_of, boots_of, lines_held};
-ghost use Rattle.system_model.specs.Fit.{FitDirectories, FitSlots, FitLines, FitBlocks};
+ghost use Rattle.system_model.specs.Fit.{FitDirectories, FitSlots, FitLines, FitBlocks, AreRevokedAtMost};
 ghost use Rattle.system_model.specs.LineEvents.{byte_row, take_row, carrier_row};
 ghost use Rattle.system_model.specs.Rows.{Does};
 ghost use Rattle.system_model.specs.Tables.{Tables, view_of};
@@ -39,6 +39,7 @@ pub fn do_byte(
     ensures slots { (d : Shared Open) → FitSlots d procs.old → FitSlots d procs.new }
     ensures lines { (d : Shared Open) → FitLines d (counts_of lines.old) (boots_of lines.old) → FitLines d (counts_of lines.new) (boots_of lines.new) }
     ensures blocks { (pipes : Pipes ChainState) → FitBlocks pool.old pipes lines.old → FitBlocks pool.new pipes lines.new }
+    ensures revokes { (most : ℕ) → AreRevokedAtMost most pool.old lines.old → AreRevokedAtMost most pool.new lines.new }
     ensures does { (t : Tables) → t.processes ≡ procs.old → t.pool ≡ pool.old → t.lines ≡ lines.old → t.ending ≡ ending.old.items →
         FitBlocks pool.old t.pipes lines.old →
         Does (view_of t) (view_of (record t { processes = procs.new; pool = pool.new; lines = lines.new; ending = ending.new.items })) result (byte_row (view_of t) line byte) }
@@ -64,6 +65,7 @@ pub fn do_take(pool: &Pool, lines: &mut [Line], line: u8, max: u16) -> Decision
     requires blocks { AreOf pool.now (lines_held lines.old) }
     ensures lines { (d : Shared Open) → FitLines d (counts_of lines.old) (boots_of lines.old) → FitLines d (counts_of lines.new) (boots_of lines.new) }
     ensures blocks { (pipes : Pipes ChainState) → FitBlocks pool.now pipes lines.old → FitBlocks pool.now pipes lines.new }
+    ensures revokes { (most : ℕ) → AreRevokedAtMost most pool.now lines.old → AreRevokedAtMost most pool.now lines.new }
     ensures does { (t : Tables) → t.pool ≡ pool.now → t.lines ≡ lines.old →
         Does (view_of t) (view_of (record t { lines = lines.new })) result (take_row (view_of t) line max) }
 {
@@ -87,6 +89,7 @@ pub fn do_carrier(
     ensures slots { (d : Shared Open) → FitSlots d procs.old → FitSlots d procs.new }
     ensures lines { (d : Shared Open) → FitLines d (counts_of lines.old) (boots_of lines.old) → FitLines d (counts_of lines.new) (boots_of lines.new) }
     ensures blocks { (pipes : Pipes ChainState) → FitBlocks pool.old pipes lines.old → FitBlocks pool.new pipes lines.new }
+    ensures revokes { (most : ℕ) → AreRevokedAtMost most pool.old lines.old → AreRevokedAtMost most pool.new lines.new }
     ensures does { (t : Tables) → t.processes ≡ procs.old → t.pool ≡ pool.old → t.lines ≡ lines.old → t.ending ≡ ending.old.items →
         FitBlocks pool.old t.pipes lines.old →
         Does (view_of t) (view_of (record t { processes = procs.new; pool = pool.new; lines = lines.new; ending = ending.new.items })) result (carrier_row (view_of t) line up) }

@@ -2,7 +2,7 @@ use Rattle.std.proofs.Common.{Some, None, sym, ap, ◌∙◌}
 use Rattle.call_words.specs.declared.signal.To.TheVariants.{Group}
 use Rattle.system_model.specs.Effects.{on_processes, change}
 use Rattle.system_model.specs.ProcessEffects.{post}
-use Rattle.tty_calls.proofs.EventRows.{byte_as, byte_done}
+use Rattle.tty_calls.proofs.EventRows.{byte_as, byte_done, byte_revokes}
 use Rattle.tty_calls.proofs.events.do_byte.Goals as goal
 
 pub returns-in_default-clause-does : goal.returns-in_default-clause-does
@@ -35,3 +35,18 @@ returns-in-Some-session-clause-does c = λ t processes pool lines ending fit.
     ∙ ap (λ v. change v (on_processes (post c.in-Some.sig (Group c.foreground_at-foreground.result))))
     (byte_as t c.receive.new.pool c.receive.new.lines c.args.line c.args.byte (rw (pool, lines) c.receive.ensures.devices)
     (rw lines c.receive.ensures.counts) (rw (pool, lines) fit) (rw (pool, lines) c.receive.ensures.keeps))))
+
+pub returns-in_default-clause-revokes : goal.returns-in_default-clause-revokes
+returns-in_default-clause-revokes c = λ most.
+    byte_revokes most c.args.pool.now c.receive.new.pool c.args.lines.now c.receive.new.lines c.args.line c.args.byte c.receive.ensures.devices
+    c.receive.ensures.counts
+
+pub returns-in-None-clause-revokes : goal.returns-in-None-clause-revokes
+returns-in-None-clause-revokes c = λ most.
+    byte_revokes most c.args.pool.now c.receive.new.pool c.args.lines.now c.receive.new.lines c.args.line c.args.byte c.receive.ensures.devices
+    c.receive.ensures.counts
+
+pub returns-in-Some-session-clause-revokes : goal.returns-in-Some-session-clause-revokes
+returns-in-Some-session-clause-revokes c = λ most.
+    byte_revokes most c.args.pool.now c.receive.new.pool c.args.lines.now c.receive.new.lines c.args.line c.args.byte c.receive.ensures.devices
+    c.receive.ensures.counts

@@ -4,7 +4,7 @@ use Rattle.sys_types.specs.declared.sig.Sig.TheVariants as sig
 use Rattle.system_model.specs.Effects.{on_processes, change}
 use Rattle.system_model.specs.ProcessEffects.{post}
 use Rattle.system_model.proofs.SeenLines.{lines_still}
-use Rattle.tty_calls.proofs.EventRows.{carrier_as, carrier_done}
+use Rattle.tty_calls.proofs.EventRows.{carrier_as, carrier_done, carrier_revokes}
 use Rattle.tty_calls.proofs.events.do_carrier.Goals as goal
 
 pub returns-then-not-set_carrier-clause-lines : goal.returns-then-not-set_carrier-clause-lines
@@ -38,3 +38,18 @@ returns-clause-does c = λ t processes pool lines ending fit.
     ∙ ap (λ v. change v (on_processes (post sig.HUP (Pid c.in-Some.leader))))
     (carrier_as t c.set_carrier.new.pool c.set_carrier.new.lines c.args.line c.args.up (rw (pool, lines) c.set_carrier.ensures.devices)
     (rw lines c.set_carrier.ensures.counts) (rw (pool, lines) fit) (rw (pool, lines) c.set_carrier.ensures.keeps))))
+
+pub returns-then-not-set_carrier-clause-revokes : goal.returns-then-not-set_carrier-clause-revokes
+returns-then-not-set_carrier-clause-revokes c = λ most.
+    carrier_revokes most c.args.pool.now c.set_carrier.new.pool c.args.lines.now c.set_carrier.new.lines c.args.line c.args.up c.set_carrier.ensures.devices
+    c.set_carrier.ensures.counts
+
+pub returns-in_default-clause-revokes : goal.returns-in_default-clause-revokes
+returns-in_default-clause-revokes c = λ most.
+    carrier_revokes most c.args.pool.now c.set_carrier.new.pool c.args.lines.now c.set_carrier.new.lines c.args.line c.args.up c.set_carrier.ensures.devices
+    c.set_carrier.ensures.counts
+
+pub returns-clause-revokes : goal.returns-clause-revokes
+returns-clause-revokes c = λ most.
+    carrier_revokes most c.args.pool.now c.set_carrier.new.pool c.args.lines.now c.set_carrier.new.lines c.args.line c.args.up c.set_carrier.ensures.devices
+    c.set_carrier.ensures.counts
