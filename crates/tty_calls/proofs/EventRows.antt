@@ -82,8 +82,8 @@ disconnected-session : (connected : Bool) (d : Device ℕ) (queues : Option (Dis
 disconnected-session true d queues = refl
 disconnected-session false d queues = refl
 
-carrier-session : (d : Device ℕ) (up : Bool) → (device.set_carrier d up).session ≡ d.session
-carrier-session d up = by_end d.ended up
+pub carrier_session : (d : Device ℕ) (up : Bool) → (device.set_carrier d up).session ≡ d.session
+carrier_session d up = by_end d.ended up
   where
     lost : Device ℕ
     lost = record d { carrier = false }
@@ -115,7 +115,7 @@ pub carrier_revokes : (most : ℕ) (old new : PoolState) (before after : List Li
     → devices new after ≡ change_line (λ d. device.set_carrier d up) (devices old before) n → counts_of after ≡ counts_of before
     → AreRevokedAtMost most old before → AreRevokedAtMost most new after
 carrier_revokes most old new before after n up is counts =
-    revokes_still most old new before after (λ d. device.set_carrier d up) n is counts (λ d. carrier-session d up)
+    revokes_still most old new before after (λ d. device.set_carrier d up) n is counts (λ d. carrier_session d up)
 
 pub byte_revokes : (most : ℕ) (old new : PoolState) (before after : List LineState) (n b : ℕ)
     → devices new after ≡ change_line (λ d. (device.receive bytes d b).0) (devices old before) n → counts_of after ≡ counts_of before

@@ -5,3 +5,4 @@ pub mod GroupRows
 pub mod ChangeRows
 pub mod EventRows
 pub mod SessionRows
+pub mod EndRows

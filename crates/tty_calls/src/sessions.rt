@@ -11,14 +11,13 @@ ghost use Rattle.system_model.specs.Rows.{Does};
 ghost use Rattle.system_model.specs.Tables.{Tables, view_of};
 ghost use Rattle.system_model.specs.TtyCalls.{setctty_row};
 
+use crate::descriptors::line_of_fd;
 use call_words::{Decision, Rule};
 use fd_table::FdTable;
 use proc_table::{Proc, ProcTable};
 use system_model::caller;
 use tty_dev::Line;
 use tty_dev::table::{session_at, set_session};
-
-use crate::descriptors::line_of_fd;
 
 /// Whether a process leads its session.
 fn is_leader(who: &Proc) -> bool
