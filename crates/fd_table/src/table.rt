@@ -1,10 +1,10 @@
 //! The table of descriptors and open files.
-ghost use Rattle.std.specs.Prelude.{◌≡◌, ℕ, ◌+◌, ◌<◌, ◌≤◌, Some, None, is_some, is_none, option_copied, IfOk, IsTrue};
+ghost use Rattle.std.specs.Prelude.{◌≡◌, ℕ, ◌+◌, ◌<◌, ◌≤◌, Some, None, is_some, is_none, length, option_copied, IfOk, IsTrue};
 ghost use Rattle.sys_types.specs.declared.limits.TheConstants.{SLOTS, DESCRIPTORS};
 ghost use Rattle.fd_table.specs.Kept.{nothing_open};
 ghost use Rattle.fd_table.specs.Opens.{at_offset, is_of};
 ghost use Rattle.fd_table.specs.Shared.{file_at, descriptor_at, entry_at, free_numbers, free_entries, lowest_open, copy, fork, put, drop_number, last_file};
-ghost use Rattle.fd_table.specs.Shared.{change_file, count_files};
+ghost use Rattle.fd_table.specs.Shared.{change_file, count_files, row_of, is_on_exec};
 ghost use Rattle.fd_table.specs.Calls as calls;
 
 use crate::counts::Counts;
@@ -58,6 +58,27 @@ impl FdTable {
     {
         let descriptor = self.rows.descriptor(slot, fd)?;
         self.files.get(descriptor.entry)
+    }
+
+    /// Whether a number of a slot is open: then it refers to an open file. A slot has 32 numbers.
+    pub fn is_open(&self, slot: u8, fd: u8) -> bool
+        requires { slot < SLOTS }
+        ensures descriptor { result ≡ is_some (descriptor_at self.now.table slot fd) }
+        ensures file { result ≡ is_some (file_at self.now slot fd) }
+        ensures numbers { length (row_of self.now.table slot) ≡ DESCRIPTORS }
+    {
+        self.rows.descriptor(slot, fd).is_some()
+    }
+
+    /// Whether a number of a slot is open and closed at an execve(2).
+    pub fn is_on_exec(&self, slot: u8, fd: u8) -> bool
+        requires { slot < SLOTS }
+        ensures { result ≡ is_on_exec (descriptor_at self.now.table slot fd) }
+    {
+        match self.rows.descriptor(slot, fd) {
+            None => false,
+            Some(descriptor) => descriptor.on_exec,
+        }
     }
 
     /// How many open files there are of a target, 0 to 256.

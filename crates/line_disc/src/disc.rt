@@ -13,7 +13,7 @@ ghost use Rattle.line_disc.specs.Disc.{DiscState, discipline_of, blocks_of, Keep
 use crate::echo::{Echo, drop_line_echo, echo, erase_echo, is_char, shown};
 use crate::input::Input;
 use crate::place::PlaceKind;
-use crate::transfer::{append, append_shown, take_front};
+use crate::transfer::{append, append_shown, take_front, takes_none};
 use block_pool::{Chain, Lease, Pool};
 use std::marker::Model;
 use sys_types::{PIECE_BYTES, Piece, READY_LINE_BYTES, Sig};
@@ -362,6 +362,13 @@ impl Disc {
         ensures keeps { KeepsBlocks pool.old pool.new self.old self.new }
     {
         append_shown(&mut self.output, pool, &self.termios, written)
+    }
+
+    /// Whether a write puts none of the bytes: there are none, or not all fits that goes out for the first.
+    pub fn puts_none(&self, written: &[u8]) -> bool
+        ensures { (pool : PoolState) → result ≡ (put_count (discipline_of pool self.now) written.now == 0) }
+    {
+        takes_none(&self.output, &self.termios, written)
     }
 
     /// Whether a read of so many bytes waits: for a ready line, or without icanon for MIN bytes, or `max` where that is less.

@@ -1,7 +1,7 @@
 //! Bytes that go into a chain and come out of it.
-ghost use Rattle.std.specs.Prelude.{◌≡◌, ℕ, ◌-◌, ◌≤◌, ◌++◌, length, take, drop};
+ghost use Rattle.std.specs.Prelude.{◌≡◌, ◌==◌, ℕ, ◌-◌, ◌≤◌, ◌++◌, length, take, drop};
 ghost use Rattle.sys_types.specs.declared.limits.TheConstants.{PIECE_BYTES, OUTPUT_BYTES};
-ghost use Rattle.block_pool.specs.Pool.{AreOf, WritesTo};
+ghost use Rattle.block_pool.specs.Pool.{PoolState, AreOf, WritesTo};
 ghost use Rattle.block_pool.specs.Chain.{room_of, holds};
 ghost use Rattle.line_disc.specs.Echo.{shown};
 ghost use Rattle.line_disc.specs.Transfers.{fit_count};
@@ -57,6 +57,17 @@ pub(crate) fn append_shown(
         count += 1;
     }
     count
+}
+
+/// Whether a line's output, of 32 blocks, takes none of the bytes: there are none, or not all fits that goes out for the first.
+pub(crate) fn takes_none(output: &Chain, termios: &Termios, bytes: &[u8]) -> bool
+    requires { length output.now.blocks ≡ 32 }
+    ensures { (pool : PoolState) → result ≡ (fit_count termios.now (OUTPUT_BYTES - length (holds pool output.now)) bytes.now == 0) }
+{
+    let Some(byte) = bytes.first() else {
+        return true;
+    };
+    shown_byte(termios, *byte).len() > usize::from(output.room())
 }
 
 /// Takes up to `max` bytes, at most 512, from the front of a chain.

@@ -1,16 +1,17 @@
 -- A post of a signal leaves each process its directory, and none ends by it.
 use Rattle.std.proofs.Common.{◌≡◌, ℕ, zero, suc, Bool, true, false, cond, List, [], ◌∷◌, get_or, set, Option, Some, None, option_map, option_and_then, refl, sym, ap, ◌∙◌}
-use Rattle.std.proofs.Common.{subst}
+use Rattle.std.proofs.Common.{subst, ◌⊎◌, inl, inr, ⊎_elim}
 use Rattle.std.specs.Prelude.{is_some}
 use Rattle.sys_types.specs.declared.sig.Sig.{Sig}
 use Rattle.sys_types.specs.declared.sig.Sig.TheVariants as sig
 use Rattle.call_words.specs.declared.event.How.{How}
+use Rattle.call_words.specs.declared.event.How.TheVariants.{Signal}
 use Rattle.call_words.specs.declared.signal.To.{To}
 use Rattle.proc_table.specs.declared.post.Disposition.{Disposition}
 use Rattle.proc_table.specs.declared.post.Disposition.TheVariants as disposition
 use Rattle.proc_table.specs.Processes.{Process, Slot, empty_slot, Processes, is_running, running_of, process_at, running_at, change_process, add_caught, holds, slot_of}
 use Rattle.proc_table.specs.Posts.{Posted, table_and_list, continue, continue_at, catches_child, catch_child, post_child, stop, disposition_of, dispose, post_if_running}
-use Rattle.proc_table.specs.Posts.{post_at, post_all, receivers, post}
+use Rattle.proc_table.specs.Posts.{post_at, post_all, receivers, post, add_ending}
 
 -- what is kept of a process: its directory, and whether it runs
 abbrev kept : {D : Type 0} → Process D → D × Bool
@@ -58,16 +59,16 @@ catch-keeps {D} t (Some slot) = by_case (holds catches_child (running_at t slot)
     by_case true = change_keeps (add_caught sig.CHLD) (λ p. refl) t slot
     by_case false = λ k. refl
 
-child-keeps : {D : Type 0} (t : Processes D) (parent : ℕ) → KeepsProcesses t (post_child t parent)
+pub child_keeps : {D : Type 0} (t : Processes D) (parent : ℕ) → KeepsProcesses t (post_child t parent)
 unfolding post_child
-child-keeps t parent = catch-keeps t (slot_of t parent)
+child_keeps t parent = catch-keeps t (slot_of t parent)
 
 dispose-keeps : {D : Type 0} (what : Disposition) (signal : Sig) (slot parent : ℕ) (posted : Posted D)
     → KeepsProcesses posted.table (dispose what signal slot parent posted).table
 dispose-keeps disposition.End signal slot parent posted = λ k. refl
 dispose-keeps disposition.Stop signal slot parent posted =
     keeps-both posted.table (change_process (stop signal) posted.table slot) (post_child (change_process (stop signal) posted.table slot) parent)
-    (change_keeps (stop signal) (λ p. refl) posted.table slot) (child-keeps (change_process (stop signal) posted.table slot) parent)
+    (change_keeps (stop signal) (λ p. refl) posted.table slot) (child_keeps (change_process (stop signal) posted.table slot) parent)
 dispose-keeps disposition.Catch signal slot parent posted = change_keeps (add_caught signal) (λ p. refl) posted.table slot
 dispose-keeps disposition.Nothing signal slot parent posted = λ k. refl
 
@@ -78,11 +79,36 @@ running-keeps signal slot posted (Some p) =
     keeps-both posted.table (continue_at signal posted.table slot) (post_if_running signal slot posted (Some p)).table (continue-keeps signal posted.table slot)
     (dispose-keeps (disposition_of posted.table p signal) signal slot p.parent (record posted { table = continue_at signal posted.table slot }))
 
+pub post_at_keeps : {D : Type 0} (signal : Sig) (posted : Posted D) (slot : ℕ) → KeepsProcesses posted.table (post_at signal posted slot).table
+post_at_keeps signal posted slot = running-keeps signal slot posted (running_at posted.table slot)
+
+-- a post to a slot leaves the list of those to be ended, or its running process joins it
+abbrev pub JoinsAt : {D : Type 0} → Sig → Posted D → ℕ → Posted D → Type 0
+JoinsAt signal posted slot after =
+    (after.ending ≡ posted.ending) ⊎ ((is_some (running_at posted.table slot) ≡ true) × (after.ending ≡ add_ending posted.ending slot (Signal signal)))
+
+dispose-joins : {D : Type 0} (what : Disposition) (signal : Sig) (slot parent : ℕ) (posted : Posted D)
+    → ((dispose what signal slot parent posted).ending ≡ posted.ending) ⊎ ((dispose what signal slot parent posted).ending ≡ add_ending posted.ending slot (Signal signal))
+dispose-joins disposition.End signal slot parent posted = inr refl
+dispose-joins disposition.Stop signal slot parent posted = inl refl
+dispose-joins disposition.Catch signal slot parent posted = inl refl
+dispose-joins disposition.Nothing signal slot parent posted = inl refl
+
+running-joins : {D : Type 0} (signal : Sig) (posted : Posted D) (slot : ℕ) (o : Option (Process D)) → running_at posted.table slot ≡ o
+    → JoinsAt signal posted slot (post_if_running signal slot posted o)
+running-joins signal posted slot None is = inl refl
+running-joins signal posted slot (Some p) is =
+    ⊎_elim (λ same. inl same) (λ more. inr (ap is_some is, more))
+    (dispose-joins (disposition_of posted.table p signal) signal slot p.parent (record posted { table = continue_at signal posted.table slot }))
+
+pub post_at_joins : {D : Type 0} (signal : Sig) (posted : Posted D) (slot : ℕ) → JoinsAt signal posted slot (post_at signal posted slot)
+post_at_joins signal posted slot = running-joins signal posted slot (running_at posted.table slot) refl
+
 all-keeps : {D : Type 0} (signal : Sig) (slots : List ℕ) (posted : Posted D) → KeepsProcesses posted.table (post_all signal slots posted).table
 all-keeps signal [] posted = λ k. refl
 all-keeps signal (slot ∷ slots) posted =
     keeps-both posted.table (post_at signal posted slot).table (post_all signal slots (post_at signal posted slot)).table
-    (running-keeps signal slot posted (running_at posted.table slot)) (all-keeps signal slots (post_at signal posted slot))
+    (post_at_keeps signal posted slot) (all-keeps signal slots (post_at signal posted slot))
 
 pub post_keeps : {D : Type 0} (t : Processes D) (signal : Sig) (whom : To) (ending : List (ℕ × How)) → KeepsProcesses t (post t signal whom ending).table
 post_keeps t signal whom ending = all-keeps signal (receivers t whom) (table_and_list t ending)

@@ -1,6 +1,6 @@
 //! A terminal line.
 ghost use Rattle.std.specs.Prelude.{◌≡◌, ℕ, ◌+◌, ◌<◌, ◌≤◌, ◌^◌, ◌↔◌, true, false, List, [], length, nat_lt, is_some, if◌then◌else◌, Option, Some, None, IfOk};
-ghost use Rattle.std.specs.Prelude.{OnOk, OnErr, IsErr};
+ghost use Rattle.std.specs.Prelude.{OnOk, OnErr, IsErr, ◌==◌};
 ghost use Rattle.sys_types.specs.declared.limits.TheConstants.{LINE_BLOCKS, OPEN_FILES, PIECE_BYTES};
 ghost use Rattle.block_pool.specs.Pool.{PoolState, AreOf, Lends, WritesTo};
 ghost use Rattle.line_disc.specs.Discipline.{bytes};
@@ -284,6 +284,16 @@ impl Line {
         match &self.disc {
             Some(disc) => disc.waits(max),
             None => false,
+        }
+    }
+
+    /// Whether a write puts none of the bytes: there are none, not all fits that goes out for the first, or no file is live.
+    pub fn puts_none(&self, written: &[u8]) -> bool
+        ensures { (pool : PoolState) → result ≡ (put_count (device_of pool self.now) written.now == 0) }
+    {
+        match &self.disc {
+            Some(disc) => disc.puts_none(written),
+            None => true,
         }
     }
 

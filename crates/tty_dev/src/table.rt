@@ -224,6 +224,14 @@ pub fn waits(lines: &[Line], line: u8, max: u16) -> bool
     lines[usize::from(line)].waits(max)
 }
 
+/// Whether a write to a line puts none of the bytes: there are none, not all fits that goes out for the first, or no file is live.
+pub fn puts_none(lines: &[Line], line: u8, written: &[u8]) -> bool
+    requires { line < length lines.now }
+    ensures { (pool : PoolState) → result ≡ (put_count (line_at (devices pool lines.now) line) written.now == 0) }
+{
+    lines[usize::from(line)].puts_none(written)
+}
+
 /// Whether a taking of a line's output would give a byte.
 pub fn is_takeable(lines: &[Line], line: u8) -> bool
     requires { line < length lines.now }

@@ -24,3 +24,4 @@ pub mod Finite
 pub mod OwnPathLemmas
 pub mod AccessRules
 pub mod Ways
+pub mod LineNodes

@@ -53,7 +53,7 @@ fn image_text(alloc: Global, image: Image) -> Result<Contents, NoMemory>
 }
 
 /// The name of a terminal line: `tty` and its number, below ten.
-fn line_name(number: u8) -> [u8; 4]
+pub(crate) fn line_name(number: u8) -> [u8; 4]
     requires { number < 10 }
     ensures { result ≡ line_name number }
 {

@@ -1,17 +1,20 @@
 //! The tree: its nodes, made, changed and taken away.
 ghost use Rattle.std.specs.Prelude.{◌≡◌, ◌≢◌, ◌↔◌, ℕ, ◌<◌, ◌≤◌, List, [], ◌∷◌, ◌++◌, Some, None, Ok, Err, option_map, option_copied, MatchOption, length, not, IsTrue, IsErr, IfOk, OnOk, OnErr, ◌+◌};
+ghost use Rattle.std.specs.Prelude.{nat_lt, codes, IsSome, false};
 ghost use Rattle.std.specs.Bool.{OnTrue, OnFalse};
 ghost use Rattle.tree_model.specs.Tree.{NodeRecord, is_dir, is_dir_record, parent_of, at_path, with_node_at, nodes_from, bytes_in};
 ghost use Rattle.tree_model.specs.Listing.{is_empty_dir};
+ghost use Rattle.tree_model.specs.Standard.{line_name};
 ghost use Rattle.vnode_tree.specs.Contents.{bytes_at, with_write, space_of};
 ghost use Rattle.vnode_tree.specs.Standard.{Keeps};
-ghost use Rattle.sys_types.specs.declared.limits.TheConstants.{NODES, FILE_SPACE};
+ghost use Rattle.sys_types.specs.declared.limits.TheConstants.{NODES, FILE_SPACE, LINES};
 ghost use Rattle.vnode_tree.specs.declared.tree.WriteFault.TheVariants.{Space};
 ghost use Rattle.vnode_tree.specs.Nodes.{IsLive, IsFile, is_file_record, IsAt, IsLeaf, IsRemovable, HasChild, node_at, path_of, record_of, tree_of, with_node, with_record, with_attrs, with_default, with_contents, new_node, is_name, count_of, ChangesAt};
 
 use crate::FILE_SPACE;
 use crate::contents::Contents;
 use crate::entry::{Entry, Name255};
+use crate::standard::line_name;
 use crate::table::{self, child_place, entry_of, first_child, free_place};
 use access_rule::Attrs;
 use acl_core::Acl;
@@ -119,6 +122,23 @@ impl Tree {
             None => None,
             Some(place) => Some(Node::of(place as u16)),
         }
+    }
+
+    /// The node of a terminal line, `/dev/ttyN`. It is there.
+    pub fn line_node(&self, line: u8) -> Node
+        requires line { line < LINES }
+        requires there { IsSome (at_path (nodes_from self.now) (codes "dev" ∷ line_name line ∷ [])) }
+        ensures live { IsLive self.now result }
+        ensures path { path_of self.now result ≡ codes "dev" ∷ line_name line ∷ [] }
+    {
+        let _ = &self.entries;
+        let Some(dir) = self.child(self.root(), b"dev") else {
+            unreachable!()
+        };
+        let Some(node) = self.child(dir, &line_name(line)) else {
+            unreachable!()
+        };
+        node
     }
 
     /// Whether a node has children. The node is live.
@@ -294,22 +314,38 @@ impl Tree {
         entry.contents.read(at as usize, usize::from(max))
     }
 
+    /// Whether the contents of all files would pass 4,194,304 bytes after a write of bytes at a place of a file, as `write` does it. The
+    /// node is a live file.
+    pub fn lacks_space(&self, node: Node, at: u32, bytes: &[u8]) -> bool
+        requires { IsFile self.now node }
+        ensures table { result ≡ nat_lt FILE_SPACE (space_of (with_record (with_write at bytes.now) self.now node)) }
+        ensures map { result ≡ nat_lt FILE_SPACE
+            (bytes_in (with_node_at (nodes_from self.now) (path_of self.now node) (option_map (with_write at bytes.now) (record_of self.now node)))) }
+        ensures behind { result ≡ false → 0 < length bytes.now → at + length bytes.now ≤ FILE_SPACE }
+        ensures node { record_of self.now node ≡ at_path (nodes_from self.now) (path_of self.now node) }
+    {
+        let contents = &entry_of(self.entries.as_slice(), node).contents;
+        let others = table::all_sizes(self.entries.as_slice()) - contents.len();
+        contents.len_after(at, bytes) > FILE_SPACE - others
+    }
+
     /// Writes bytes at a place of a file. Bytes that are missing before it become 0, and a write of no bytes changes
     /// nothing. The node is a live file.
     ///
-    /// `Space` comes exactly where the contents of all files would pass 4,194,304 bytes. With `Err` nothing changes.
+    /// `Space` comes exactly where the contents of all files would pass 4,194,304 bytes, so some bytes that are written end within as many
+    /// of their file. With `Err` nothing changes.
     pub fn write(&mut self, node: Node, at: u32, bytes: &[u8]) -> Result<(), WriteFault>
         requires { IsFile self.old node }
         ensures space { (result ≡ Err Space) ↔ (FILE_SPACE < space_of (with_record (with_write at bytes.now) self.old node)) }
         ensures space_map { (result ≡ Err Space) ↔ (FILE_SPACE < bytes_in (with_node_at (nodes_from self.old) (path_of self.old node) (option_map (with_write at bytes.now) (record_of self.old node)))) }
         ensures after_write { OnOk result (self.new ≡ with_record (with_write at bytes.now) self.old node) }
+        ensures behind { OnOk result (0 < length bytes.now → at + length bytes.now ≤ FILE_SPACE) }
+        ensures node { record_of self.old node ≡ at_path (nodes_from self.old) (path_of self.old node) }
         ensures changes { OnOk result (ChangesAt (path_of self.old node) (option_map (with_write at bytes.now) (record_of self.old node)) self.old self.new) }
         ensures map { OnOk result (nodes_from self.new ≡ with_node_at (nodes_from self.old) (path_of self.old node) (option_map (with_write at bytes.now) (record_of self.old node))) }
         ensures err { OnErr result (self.new ≡ self.old) }
     {
-        let contents = &entry_of(self.entries.as_slice(), node).contents;
-        let others = table::all_sizes(self.entries.as_slice()) - contents.len();
-        if contents.len_after(at, bytes) > FILE_SPACE - others {
+        if self.lacks_space(node, at, bytes) {
             return Err(WriteFault::Space);
         }
         match table::write(self.entries.as_mut_slice(), node, at, bytes) {

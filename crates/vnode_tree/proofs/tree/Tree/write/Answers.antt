@@ -1,10 +1,11 @@
-use Rattle.std.proofs.Common.{◌<◌, ◌≤◌, arith, refl}
+use Rattle.std.proofs.Common.{◌<◌, ◌≤◌, arith, refl, sym, ◌∙◌}
+use Rattle.std.proofs.lemmas.Bool.{ltb-true, ltb-false}
 use Rattle.vnode_tree.specs.Contents.{after_write, with_write, space_of}
 use Rattle.vnode_tree.specs.Nodes.{with_record}
 use Rattle.vnode_tree.specs.Links.{entry_with_contents, with_entry}
 use Rattle.vnode_tree.proofs.Looks.{live_entry}
 use Rattle.vnode_tree.proofs.Calls.{Recorded, entry_written}
-use Rattle.vnode_tree.proofs.Files.{file_live, file_written, weighed}
+use Rattle.vnode_tree.proofs.Files.{file_live, file_written}
 use Rattle.vnode_tree.proofs.Finite.{nodes_changed, bytes_after, apart_table}
 use Rattle.vnode_tree.proofs.tree.Tree.write.Goals as goal
 
@@ -13,29 +14,15 @@ write-requires c =
     rw c.as_mut_slice.ensures.value
     (live_entry c.self.inside.entries.items c.args.self.now c.args.node c.self.view_is (file_live c.args.self.now c.args.node c.requires))
 
-pub entry_of-requires : goal.entry_of-requires
-entry_of-requires c =
-    rw c.as_slice.ensures.value
-    (live_entry c.self.inside.entries.items c.args.self.now c.args.node c.self.view_is (file_live c.args.self.now c.args.node c.requires))
-
-pub returns-then-len_after-others-clause-space : goal.returns-then-len_after-others-clause-space
-returns-then-len_after-others-clause-space c =
-    let w =
-    weighed c.self.inside.entries.items c.as_slice.result.now c.as_slice-2.result.now c.args.self.now c.args.node c.entry_of.result.now c.args.at
-    c.args.bytes.now c.all_sizes.result c.len.result c.len_after.result c.self.view_is c.self.invariant c.as_slice.ensures.value c.as_slice-2.ensures.value
-    c.entry_of.ensures c.all_sizes.ensures c.len.ensures c.len_after.ensures in
+pub returns-then-lacks_space-clause-space : goal.returns-then-lacks_space-clause-space
+returns-then-lacks_space-clause-space c =
     let over : 4194304 < space_of (with_record (with_write c.args.at c.args.bytes.now) c.args.self.now c.args.node) =
-    omega (arith, w.whole, w.part, w.most, c.if-len_after-others.true) in
+    ltb-true _ _ (sym c.lacks_space.ensures.table ∙ c.if-lacks_space.true) in
     (λ _. over, λ _. refl)
 
 -- there is room
 room : (c : goal.In-Ok) → space_of (with_record (with_write c.args.at c.args.bytes.now) c.args.self.now c.args.node) ≤ 4194304
-room c =
-    let w =
-    weighed c.self.inside.entries.items c.as_slice.result.now c.as_slice-2.result.now c.args.self.now c.args.node c.entry_of.result.now c.args.at
-    c.args.bytes.now c.all_sizes.result c.len.result c.len_after.result c.self.view_is c.self.invariant c.as_slice.ensures.value c.as_slice-2.ensures.value
-    c.entry_of.ensures c.all_sizes.ensures c.len.ensures c.len_after.ensures in
-    omega (arith, w.whole, w.part, w.most, c.if-len_after-others.false)
+room c = ltb-false _ _ (sym c.lacks_space.ensures.table ∙ c.if-lacks_space.false)
 
 done : (c : goal.In-Ok)
     → Recorded (with_write c.args.at c.args.bytes.now) c.args.self.now c.args.node
@@ -68,21 +55,16 @@ returns-in-Ok-clause-changes c =
 
 pub returns-in-Err-clause-space : goal.returns-in-Err-clause-space
 returns-in-Err-clause-space c =
-    let w =
-    weighed c.self.inside.entries.items c.as_slice.result.now c.as_slice-2.result.now c.args.self.now c.args.node c.entry_of.result.now c.args.at
-    c.args.bytes.now c.all_sizes.result c.len.result c.len_after.result c.self.view_is c.self.invariant c.as_slice.ensures.value c.as_slice-2.ensures.value
-    c.entry_of.ensures c.all_sizes.ensures c.len.ensures c.len_after.ensures in
-    (λ is. absurd cc, λ over. absurd (omega (arith, over, w.whole, w.part, w.most, c.if-len_after-others.false)))
+    let fits = ltb-false _ _ (sym c.lacks_space.ensures.table ∙ c.if-lacks_space.false) in
+    (λ is. absurd cc, λ over. absurd (omega (arith, over, fits)))
 
 pub returns-in-Ok-clause-map : goal.returns-in-Ok-clause-map
 returns-in-Ok-clause-map c = nodes_changed _ _ _ _ (returns-in-Ok-clause-changes c)
 
-pub returns-then-len_after-others-clause-space_map : goal.returns-then-len_after-others-clause-space_map
-returns-then-len_after-others-clause-space_map c =
-    rw
-    (bytes_after (with_write c.args.at c.args.bytes.now) c.args.self.now c.args.node
-    (apart_table c.self.inside.entries.items c.args.self.now c.self.view_is c.self.invariant) (file_live c.args.self.now c.args.node c.requires))
-    (returns-then-len_after-others-clause-space c)
+pub returns-then-lacks_space-clause-space_map : goal.returns-then-lacks_space-clause-space_map
+returns-then-lacks_space-clause-space_map c =
+    let over = ltb-true _ _ (sym c.lacks_space.ensures.map ∙ c.if-lacks_space.true) in
+    (λ _. over, λ _. refl)
 
 pub returns-in-Ok-clause-space_map : goal.returns-in-Ok-clause-space_map
 returns-in-Ok-clause-space_map c =
