@@ -168,6 +168,10 @@ generation_seen [] n = refl
 generation_seen (c ∷ cs) zero = refl
 generation_seen (c ∷ cs) (suc n) = generation_seen cs n
 
+pub generation_after : (counts : List Counts) (n opened k : ℕ) → (count_at (use_line (closes opened) counts n) k).generation ≡ (count_at counts k).generation
+generation_after counts n opened k =
+    sym (generation_seen (use_line (closes opened) counts n) k) ∙ ap (λ g. generation_at g k) (generations_after counts n opened) ∙ generation_seen counts k
+
 -- ---- a descriptor is closed
 
 -- no file goes with it

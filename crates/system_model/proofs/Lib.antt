@@ -18,3 +18,4 @@ pub mod SeenPosts
 pub mod BackgroundRows
 pub mod NodeFits
 pub mod VerdictRows
+pub mod RevokeLemmas

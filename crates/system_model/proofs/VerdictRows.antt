@@ -1,39 +1,34 @@
--- A verdict of the background on a call: its signal is posted to the caller's group.
-use Rattle.std.proofs.Common.{◌≡◌, ℕ, Some, sym, ap, ◌∙◌}
-use Rattle.sys_types.specs.declared.sig.Sig.{Sig}
-use Rattle.sys_types.specs.declared.rules.Rule.TheVariants.{Signal}
-use Rattle.call_words.specs.declared.event.Decision.TheVariants.{Answer, Sleep}
-use Rattle.call_words.specs.declared.event.Reason.TheVariants.{Stop}
-use Rattle.call_words.specs.declared.event.Reply.TheVariants.{Denied}
-use Rattle.call_words.specs.declared.signal.To.TheVariants.{Group}
-use Rattle.proc_table.specs.Processes.{Process, running_at}
+-- A verdict on a call that is not to go on settles it: what its check does is done, and what that gives is decided.
+use Rattle.std.proofs.Common.{◌≡◌, [], Option, Some, true, refl, sym, ap, ◌∙◌}
+use Rattle.call_words.specs.declared.event.Decision.{Decision}
+use Rattle.proc_table.specs.Processes.{Process}
 use Rattle.system_model.specs.Parts.{Path}
 use Rattle.system_model.specs.State.{View}
-use Rattle.system_model.specs.ProcessEffects.{post}
-use Rattle.system_model.specs.Effects.{on_processes, change, change_all}
-use Rattle.system_model.specs.Background.{post_to_group}
-use Rattle.system_model.specs.Looks.{caller_of}
-use Rattle.system_model.specs.Rows.{Row, Does, refused, asleep, first}
-use Rattle.system_model.specs.Tables.{Tables, view_of}
+use Rattle.system_model.specs.Effects.{change_all}
+use Rattle.system_model.specs.Rows.{Row, Check, Does, first, decision_by, effects_by, noted}
+use Rattle.system_model.specs.declared.verdict.Verdict.{Verdict}
+use Rattle.system_model.specs.declared.verdict.Verdict.TheVariants.{Refused, Empty, Zero, Asleep, Stopped, Interrupted, Broken, Go}
+use Rattle.system_model.specs.Verdicts.{check_of, is_held}
 use Rattle.system_model.proofs.RowLemmas.{holds_first}
-use Rattle.system_model.proofs.SeenProcesses.{caller_seen}
 
--- it goes to the group of the process in the table
-to-group : (t : Tables) (new : View) (slot : ℕ) (p : Process ℕ) (signal : Sig) → running_at t.processes slot ≡ Some p
-    → new ≡ change (view_of t) (on_processes (post signal (Group p.group))) → new ≡ change_all (view_of t) (post_to_group signal (caller_of (view_of t) slot))
-to-group t new slot p signal running is =
-    is ∙ ap (λ group. change (view_of t) (on_processes (post signal (Group group)))) (sym (ap (λ (who : Process Path). who.group) (caller_seen t slot p running)))
+-- the check of a verdict that is held
+held : (who : Process Path) (v : Verdict) → is_held v ≡ true → (c : Check) × (check_of who v ≡ Some c)
+held who (Refused rule) is = (_, refl)
+held who Empty is = (_, refl)
+held who Zero is = (_, refl)
+held who (Asleep reason) is = (_, refl)
+held who (Stopped signal) is = (_, refl)
+held who (Interrupted signal) is = (_, refl)
+held who Broken is = (_, refl)
+held who Go is = cc
 
--- and the call sleeps
-pub stopped : (t : Tables) (new : View) (row : Row) (slot : ℕ) (p : Process ℕ) (signal : Sig) → running_at t.processes slot ≡ Some p
-    → new ≡ change (view_of t) (on_processes (post signal (Group p.group)))
-    → Some (asleep Stop, post_to_group signal (caller_of (view_of t) slot)) ≡ first row.checks → Does (view_of t) new (Sleep Stop) row
-stopped t new row slot p signal running is check =
-    holds_first (view_of t) new row (asleep Stop, post_to_group signal (caller_of (view_of t) slot)) (sym check) (to-group t new slot p signal running is)
+by-check : (o : Option Check) (c : Check) (old new : View) (d : Decision) (row : Row) → o ≡ Some c → o ≡ first row.checks
+    → new ≡ change_all old (effects_by o []) → d ≡ decision_by o noted → Does old new d row
+by-check o c old new d row is check state answer =
+    rw (answer ∙ ap (λ o. decision_by o noted) is)
+    (holds_first old new row c (sym check ∙ is) (state ∙ ap (λ o. change_all old (effects_by o [])) is))
 
--- or is interrupted
-pub interrupted : (t : Tables) (new : View) (row : Row) (slot : ℕ) (p : Process ℕ) (signal : Sig) → running_at t.processes slot ≡ Some p
-    → new ≡ change (view_of t) (on_processes (post signal (Group p.group)))
-    → Some (refused Signal, post_to_group signal (caller_of (view_of t) slot)) ≡ first row.checks → Does (view_of t) new (Answer (Denied Signal)) row
-interrupted t new row slot p signal running is check =
-    holds_first (view_of t) new row (refused Signal, post_to_group signal (caller_of (view_of t) slot)) (sym check) (to-group t new slot p signal running is)
+pub settles : (who : Process Path) (v : Verdict) (old new : View) (d : Decision) (row : Row) → is_held v ≡ true → check_of who v ≡ first row.checks
+    → new ≡ change_all old (effects_by (check_of who v) []) → d ≡ decision_by (check_of who v) noted → Does old new d row
+settles who v old new d row is check state answer =
+    by-check (check_of who v) (held who v is).0 old new d row (held who v is).1 check state answer

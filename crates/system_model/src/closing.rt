@@ -11,7 +11,7 @@ ghost use Rattle.tree_model.specs.Tree.{NodeAt};
 ghost use Rattle.proc_table.specs.Processes.{Processes};
 ghost use Rattle.system_model.specs.Effects.{on_files, change};
 ghost use Rattle.system_model.specs.FileEffects.{close_fd, release_target};
-ghost use Rattle.system_model.specs.Fit.{FitFiles, FitSlots, FitPipes, FitLines, FitBlocks};
+ghost use Rattle.system_model.specs.Fit.{FitFiles, FitSlots, FitPipes, FitLines, FitBlocks, AreRevokedAtMost};
 ghost use Rattle.system_model.specs.Keeping.{seeing};
 ghost use Rattle.system_model.specs.Tables.{Tables, generations, is_dead_target, seen_target, view_of};
 
@@ -56,6 +56,7 @@ pub fn release(
     ensures counts { counts_of lines.new ≡ counts_after target (counts_of lines.old) }
     ensures places { length pipes.new ≡ length pipes.old }
     ensures pipes { (k : ℕ) → is_there pipes.new k ≡ is_there_after fds.now target k (is_there pipes.old k) }
+    ensures revokes { (most : ℕ) → AreRevokedAtMost most pool.old lines.old → AreRevokedAtMost most pool.new lines.new }
     ensures seen { (t : Tables) → t.descriptors ≡ fds.now → t.pipes ≡ pipes.old → t.pool ≡ pool.old → t.lines ≡ lines.old →
         view_of (record t { pipes = pipes.new; pool = pool.new; lines = lines.new })
         ≡ release_target seeing (view_of t) (is_dead_target (generations (counts_of t.lines)) target) (seen_target t.nodes target) }
@@ -88,6 +89,7 @@ pub fn close_fd(
     ensures files { (nodes : List (Option NodeAt)) → FitFiles nodes fds.old → FitFiles nodes fds.new }
     ensures slots { (processes : Processes ℕ) → FitSlots fds.old processes → FitSlots fds.new processes }
     ensures table { fds.new ≡ drop_number fds.old slot fd }
+    ensures revokes { (most : ℕ) → AreRevokedAtMost most pool.old lines.old → AreRevokedAtMost most pool.new lines.new }
     ensures does { (t : Tables) → t.descriptors ≡ fds.old → t.pipes ≡ pipes.old → t.pool ≡ pool.old → t.lines ≡ lines.old →
         view_of (record t { descriptors = fds.new; pipes = pipes.new; pool = pool.new; lines = lines.new })
         ≡ change (view_of t) (on_files (close_fd slot fd)) }

@@ -1,15 +1,17 @@
-use Rattle.std.proofs.Common.{◌≡◌, cond, ⊎_elim, sym, ap, ◌∙◌}
+use Rattle.std.proofs.Common.{◌≡◌, cond, ⊎_elim, refl, sym, ap, ◌∙◌}
 use Rattle.std.specs.Prelude.{nat_lt}
 use Rattle.fd_table.specs.declared.open.Target.TheVariants.{PipeRead, PipeWrite}
 use Rattle.pipe_core.specs.Pipes.{is_there}
-use Rattle.tty_dev.specs.Table.{counts_of, count_at, is_dead_at}
+use Rattle.tty_dev.specs.Table.{counts_of, count_at, is_dead_at, is_last_at}
 use Rattle.tty_dev.proofs.TableLemmas.{length-counts}
 use Rattle.system_model.specs.FileEffects.{release_line, release_target}
 use Rattle.system_model.specs.Keeping.{seeing}
 use Rattle.system_model.specs.Closing.{is_there_after}
 use Rattle.system_model.specs.Tables.{generations, is_dead_target, seen_target, view_of}
 use Rattle.system_model.proofs.BlockLemmas.{pipes_fit, lines_stay, pipes_stay}
-use Rattle.system_model.proofs.ClosingLemmas.{pipe_released, line_released, there_after, generations_after, generation_seen}
+use Rattle.system_model.proofs.ClosingLemmas.{pipe_released, line_released, there_after, generations_after, generation_seen, generation_after}
+use Rattle.system_model.proofs.SeenLines.{revokes_chosen, revokes_same}
+use Rattle.line_disc.specs.Device.{close_last}
 use Rattle.system_model.proofs.closing.release.Goals as goal
 
 pub close_file-requires-clause-line : goal.close_file-requires-clause-line
@@ -53,3 +55,14 @@ returns-in-Line-clause-seen c = λ t descriptors pipes pool lines.
     (rw (pipes, pool) (pipes_stay _ _ c.args.pipes.now c.args.lines.now _ c.requires.blocks c.close_file.ensures.keeps)) in
     rw (c.in-Line.is, ← pipes)
     (released ∙ ap (λ g. cond (nat_lt opened g) (view_of t) (release_line seeing (view_of t) n)) (sym (generation_seen counts n))))
+
+pub returns-in-PipeRead-clause-revokes : goal.returns-in-PipeRead-clause-revokes
+returns-in-PipeRead-clause-revokes c = λ most fit.
+    revokes_same most _ _ c.args.lines.now (lines_stay _ _ c.args.pipes.now _ c.args.lines.now c.requires.blocks c.release_pipe.ensures.keeps) fit
+
+pub returns-in-Line-clause-revokes : goal.returns-in-Line-clause-revokes
+returns-in-Line-clause-revokes c = λ most fit.
+    revokes_chosen most _ _ c.args.lines.now _ (is_last_at (counts_of c.args.lines.now) c.in-Line.line c.in-Line.opened) close_last c.in-Line.line
+    c.close_file.ensures.devices
+    (λ k. ap (λ cs. (count_at cs k).generation) c.close_file.ensures.counts ∙ generation_after (counts_of c.args.lines.now) c.in-Line.line c.in-Line.opened k)
+    (λ d. refl) fit
