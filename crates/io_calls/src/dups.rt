@@ -4,7 +4,7 @@ ghost use Rattle.sys_types.specs.declared.limits.TheConstants.{SLOTS};
 ghost use Rattle.proc_table.specs.Processes.{Processes};
 ghost use Rattle.tree_model.specs.Tree.{NodeAt};
 ghost use Rattle.tty_dev.specs.Table.{counts_of, boots_of};
-ghost use Rattle.system_model.specs.Fit.{FitFiles, FitSlots, FitPipes, FitLines, FitBlocks};
+ghost use Rattle.system_model.specs.Fit.{FitFiles, FitSlots, FitPipes, FitLines, FitBlocks, AreRevokedAtMost};
 ghost use Rattle.system_model.specs.OpenCalls.{dup_row, dup2_row};
 ghost use Rattle.system_model.specs.Rows.{Does};
 ghost use Rattle.system_model.specs.Tables.{Tables, view_of};
@@ -61,6 +61,7 @@ pub fn do_dup2(
     ensures pipes { FitPipes fds.new pipes.new }
     ensures lines { FitLines fds.new (counts_of lines.new) (boots_of lines.new) }
     ensures blocks { FitBlocks pool.new pipes.new lines.new }
+    ensures revokes { (most : ℕ) → AreRevokedAtMost most pool.old lines.old → AreRevokedAtMost most pool.new lines.new }
     ensures does { (t : Tables) → t.descriptors ≡ fds.old → t.pipes ≡ pipes.old → t.pool ≡ pool.old → t.lines ≡ lines.old →
         Does (view_of t) (view_of (record t { descriptors = fds.new; pipes = pipes.new; pool = pool.new; lines = lines.new })) result (dup2_row (view_of t) slot fd to) }
 {

@@ -1,9 +1,9 @@
 //! pipe(2).
-ghost use Rattle.std.specs.Prelude.{◌≡◌, List, Option, Bool, false, not};
+ghost use Rattle.std.specs.Prelude.{◌≡◌, ℕ, List, Option, Bool, false, not};
 ghost use Rattle.tree_model.specs.Tree.{NodeAt};
 ghost use Rattle.tty_dev.specs.History.{Counts};
 ghost use Rattle.tty_dev.specs.Line.{LineState};
-ghost use Rattle.system_model.specs.Fit.{IsCaller, FitFiles, FitSlots, FitPipes, FitLines, FitBlocks, FitPool};
+ghost use Rattle.system_model.specs.Fit.{IsCaller, FitFiles, FitSlots, FitPipes, FitLines, FitBlocks, FitPool, AreRevokedAtMost};
 ghost use Rattle.system_model.specs.PipeCalls.{pipe_row};
 ghost use Rattle.system_model.specs.Rows.{Does};
 ghost use Rattle.system_model.specs.Tables.{Tables, view_of};
@@ -50,6 +50,8 @@ pub fn do_pipe(
     ensures pipes { FitPipes fds.new pipes.new }
     ensures lines { (counts : List Counts) (boots : List Bool) → FitLines fds.old counts boots → FitLines fds.new counts boots }
     ensures blocks { (lines : List LineState) → FitBlocks pool.old pipes.old lines → FitBlocks pool.new pipes.new lines }
+    ensures revokes { (most : ℕ) (lines : List LineState) → FitBlocks pool.old pipes.old lines → AreRevokedAtMost most pool.old lines →
+        AreRevokedAtMost most pool.new lines }
     ensures does { (t : Tables) → t.descriptors ≡ fds.old → t.pipes ≡ pipes.old → t.processes ≡ procs.now → t.pool ≡ pool.old →
         FitBlocks pool.old pipes.old t.lines →
         Does (view_of t) (view_of (record t { descriptors = fds.new; pipes = pipes.new; pool = pool.new })) result (pipe_row (view_of t) slot) }

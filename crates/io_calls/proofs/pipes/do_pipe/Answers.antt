@@ -15,6 +15,7 @@ use Rattle.pipe_core.specs.Pipes.{is_there}
 use Rattle.system_model.proofs.BlockLemmas.{number_free, pipes_fit, lines_stay}
 use Rattle.io_calls.proofs.PipeRows.{reader, writer, both, pipe_no_room, pipe_no_blocks, pipe_answered, files_made, lines_made, pipes_made, there_made, places_made}
 use Rattle.io_calls.proofs.PipeRows.{added, left_by_pair, numbers_by_pair}
+use Rattle.system_model.proofs.SeenLines.{revokes_same}
 use Rattle.io_calls.proofs.pipes.do_pipe.Goals as goal
 
 pub returns-in-Some-clause-does : goal.returns-in-Some-clause-does
@@ -67,6 +68,10 @@ returns-clause-lines c = λ counts boots fit. rw (left c) (lines_made c.args.fds
 
 pub returns-clause-blocks : goal.returns-clause-blocks
 returns-clause-blocks c = λ lines fit. pipes_fit c.args.pool.now c.create.new.pool c.args.pipes.now c.create.new.self lines fit c.create.ensures.keeps
+
+pub returns-clause-revokes : goal.returns-clause-revokes
+returns-clause-revokes c = λ most lines fit.
+    revokes_same most c.args.pool.now c.create.new.pool lines (lines_stay c.args.pool.now c.create.new.pool c.args.pipes.now c.create.new.self lines fit c.create.ensures.keeps)
 
 pub returns-clause-does : goal.returns-clause-does
 returns-clause-does c = λ t descriptors pipes processes pool fit.
