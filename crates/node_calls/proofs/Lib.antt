@@ -4,3 +4,4 @@ pub mod Elsewhere
 pub mod Making
 pub mod Removing
 pub mod Unlinking
+pub mod Revoking

@@ -12,6 +12,7 @@ mod labels;
 mod lists;
 mod modes;
 mod removal;
+mod revoke;
 
 pub use directories::{do_chdir, do_list, do_mkdir};
 pub use info::do_info;
@@ -19,3 +20,4 @@ pub use labels::{do_getlabel, do_setlabel};
 pub use lists::{do_getacl, do_setacl};
 pub use modes::{do_chmod, do_chown};
 pub use removal::{do_rmdir, do_unlink};
+pub use revoke::do_revoke;
