@@ -6,3 +6,4 @@ pub mod ChangeRows
 pub mod EventRows
 pub mod SessionRows
 pub mod EndRows
+pub mod RetuneRows

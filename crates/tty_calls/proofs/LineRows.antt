@@ -1,6 +1,6 @@
 -- The line of a number, and the rows of calls on it.
 use Rattle.std.proofs.Common.{◌≡◌, ℕ, ◌<◌, Bool, true, false, List, [], ◌∷◌, ◌++◌, Option, Some, None, option_map, refl, sym, ap, subst, ◌∙◌}
-use Rattle.std.specs.Prelude.{is_none, is_some, length, nat_lt, option_and_then}
+use Rattle.std.specs.Prelude.{is_none, is_some, length, option_and_then}
 use Rattle.sys_types.specs.declared.limits.TheConstants.{LINES}
 use Rattle.sys_types.specs.declared.rules.Rule.{Rule}
 use Rattle.sys_types.specs.declared.rules.Rule.TheVariants as rule
@@ -15,8 +15,7 @@ use Rattle.tree_model.specs.Tree.{NodeAt}
 use Rattle.fd_table.specs.Shared.{Shared, file_of, descriptor_at}
 use Rattle.fd_table.specs.Shared as shared
 use Rattle.tty_dev.specs.Line.{LineState}
-use Rattle.tty_dev.specs.History.{Counts}
-use Rattle.tty_dev.specs.Table.{counts_of, boots_of, is_dead_at}
+use Rattle.tty_dev.specs.Table.{counts_of, boots_of}
 use Rattle.tty_dev.proofs.TableLemmas.{length-counts}
 use Rattle.proc_table.specs.Processes.{Process}
 use Rattle.system_model.specs.Parts.{Path}
@@ -29,7 +28,6 @@ use Rattle.system_model.specs.Rows.{Row, Does, Check, refused, deny, first}
 use Rattle.system_model.specs.Tables.{Tables, generations, is_dead_target, seen_target, seen_open, view_of}
 use Rattle.system_model.specs.TtyCalls.{tty_of, tty_at, tty_checks, on_tty, on_line_row}
 use Rattle.system_model.specs.Fit.{FitLines}
-use Rattle.system_model.proofs.ClosingLemmas.{generation_seen}
 use Rattle.system_model.proofs.FileLooks.{file_at_seen, opened_seen}
 use Rattle.system_model.proofs.RowLemmas.{first_free, first_held, checks_refuse, checks_pass}
 use Rattle.tty_calls.specs.LineOf.{IsLineOf}
@@ -51,10 +49,6 @@ line_there d lines slot fd f fit is n opened of = below-by d lines (descriptor_a
 pub line_below : (d : Shared Open) (lines : List LineState) (slot fd : ℕ) (f : Open) → FitLines d (counts_of lines) (boots_of lines)
     → shared.file_at d slot fd ≡ Some f → (n opened : ℕ) → f.target ≡ target.Line n opened → n < length lines
 line_below d lines slot fd f fit is n opened of = subst (λ k. n < k) (sym (lines_count d lines fit)) (line_there d lines slot fd f fit is n opened of)
-
--- whether a file of a line is dead
-pub dead_seen : (counts : List Counts) (n opened : ℕ) → is_dead_at counts n opened ≡ is_dead_target (generations counts) (target.Line n opened)
-dead_seen counts n opened = ap (nat_lt opened) (sym (generation_seen counts n))
 
 -- ---- the rules
 
@@ -128,17 +122,23 @@ tty_first v slot fd n row is =
 pub goes : (who : Process Path) (verdict : Verdict) → is_held verdict ≡ false → check_of who verdict ≡ None
 goes who verdict.Go free = refl
 goes who (verdict.Refused rule) free = absurd cc
+goes who verdict.Empty free = absurd cc
+goes who verdict.Zero free = absurd cc
 goes who (verdict.Asleep reason) free = absurd cc
 goes who (verdict.Stopped signal) free = absurd cc
 goes who (verdict.Interrupted signal) free = absurd cc
+goes who verdict.Broken free = absurd cc
 
 -- and one on which a check holds
 pub holds : (who : Process Path) (verdict : Verdict) → is_held verdict ≡ true → is_some (check_of who verdict) ≡ true
 holds who verdict.Go held = absurd cc
 holds who (verdict.Refused rule) held = refl
+holds who verdict.Empty held = refl
+holds who verdict.Zero held = refl
 holds who (verdict.Asleep reason) held = refl
 holds who (verdict.Stopped signal) held = refl
 holds who (verdict.Interrupted signal) held = refl
+holds who verdict.Broken held = refl
 
 -- then it is the first of more
 pub held_first : (checks more : List (Option Check)) (o : Option Check) → o ≡ first checks → is_some o ≡ true → o ≡ first (checks ++ more)

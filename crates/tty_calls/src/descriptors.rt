@@ -1,30 +1,18 @@
 //! The line that a number refers to.
 ghost use Rattle.std.specs.Prelude.{◌≡◌, ◌<◌, ℕ, List, [], Option, Some, length, IfOk, MatchResult};
 ghost use Rattle.sys_types.specs.declared.limits.TheConstants.{SLOTS};
-ghost use Rattle.fd_table.specs.declared.open.Target.TheVariants as kept;
 ghost use Rattle.tree_model.specs.Tree.{NodeAt};
 ghost use Rattle.tty_dev.specs.Table.{counts_of, boots_of};
 ghost use Rattle.system_model.specs.Fit.{FitLines};
 ghost use Rattle.system_model.specs.Rows.{refused, first};
-ghost use Rattle.system_model.specs.Tables.{Tables, generations, is_dead_target, seen_target, view_of};
+ghost use Rattle.system_model.specs.Tables.{Tables, seen_target, view_of};
 ghost use Rattle.system_model.specs.TtyCalls.{tty_of, tty_checks};
 ghost use Rattle.tty_calls.specs.LineOf.{IsLineOf};
 
 use call_words::Rule;
 use fd_table::{FdTable, Target};
+use system_model::is_dead_file;
 use tty_dev::Line;
-use tty_dev::table::is_dead;
-
-/// Whether an open file is a dead one of a line.
-pub(crate) fn is_dead_file(lines: &[Line], target: &Target) -> bool
-    requires { (line opened : ℕ) → target.now ≡ kept.Line line opened → line < length lines.now }
-    ensures { result ≡ is_dead_target (generations (counts_of lines.now)) target.now }
-{
-    match target {
-        Target::Line { line, opened } => is_dead(lines, *line, *opened),
-        Target::File(_) | Target::PipeRead(_) | Target::PipeWrite(_) => false,
-    }
-}
 
 /// The line that an open file is of.
 fn line_of_target(target: &Target) -> Option<u8>

@@ -20,4 +20,4 @@ pub use events::{do_byte, do_carrier, do_take};
 pub use groups::{do_tcgetpgrp, do_tcsetpgrp};
 pub use names::do_fdname;
 pub use sessions::do_setctty;
-pub use settings::do_tcgetattr;
+pub use settings::{do_tcgetattr, do_tcsetattr};

@@ -9,10 +9,10 @@ ghost use Rattle.system_model.specs.Rows.{Does};
 ghost use Rattle.system_model.specs.Tables.{Tables, seen_target, view_of};
 ghost use Rattle.system_model.specs.TtyCalls.{target_name, fdname_row};
 
-use crate::descriptors::is_dead_file;
 use call_words::{Decision, Rule};
 use fd_table::{FdTable, Target};
 use sys_types::TextBuf;
+use system_model::is_dead_file;
 use tty_dev::Line;
 
 /// What an open file is of, in a word.
