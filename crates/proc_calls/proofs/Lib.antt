@@ -1,9 +1,8 @@
 pub mod Keeping
 pub mod Changes
-pub mod Endings
+pub mod Exits
 pub mod Members
 pub mod Caught
-pub mod Verdicts
 pub mod Asking
 pub mod Waits
 pub mod Kills
@@ -12,3 +11,10 @@ pub mod Posting
 pub mod Groups
 pub mod Joining
 pub mod Forking
+pub mod Closes
+pub mod Burials
+pub mod Joins
+pub mod Leaving
+pub mod Worked
+pub mod Listed
+pub mod Execs

@@ -17,7 +17,10 @@ use Rattle.system_model.specs.Looks.{caller_of}
 use Rattle.system_model.specs.ProcCalls.{wait_row, no_news}
 use Rattle.system_model.specs.ProcessEffects.{reap_child, change_processes}
 use Rattle.system_model.specs.Effects.{on_processes, change}
-use Rattle.system_model.specs.Rows.{Check, deny, answer_if, sleep_if, number, first}
+use Rattle.system_model.specs.Rows.{Check, deny, answer_if, sleep_if, number, first, effects_by}
+use Rattle.system_model.specs.declared.verdict.Verdict.{Verdict}
+use Rattle.system_model.specs.declared.verdict.Verdict.TheVariants.{Refused, Empty, Zero, Asleep, Stopped, Interrupted, Broken, Go}
+use Rattle.system_model.specs.Verdicts.{check_of, is_held}
 use Rattle.system_model.specs.Tables.{Tables, view_of}
 use Rattle.system_model.proofs.SeenProcesses.{processes_mapped}
 use Rattle.proc_calls.proofs.Kills.{seen_before}
@@ -51,6 +54,37 @@ pub no_news_here : (news : Option (ℕ × How)) (no_hang : Bool) (who : Process 
     → first (answer_if no_hang (number 0) ∷ sleep_if true who Child ∷ []) ≡ first (wait_checks (Ok news) no_hang who)
 no_news_here None no_hang who is = refl
 no_news_here (Some news) no_hang who never = absurd cc
+
+-- the checks of a wait change nothing
+checks-change : (news : News) (no_hang : Bool) (who : Process Path) → effects_by (first (wait_checks news no_hang who)) [] ≡ []
+checks-change (Err e) no_hang who = refl
+checks-change (Ok (Some news)) no_hang who = refl
+checks-change (Ok None) true who = refl
+checks-change (Ok None) false who = refl
+
+pub wait_effects : (t : Tables) (slot pid : ℕ) (flags : WaitFlags) → effects_by (first (wait_row (view_of t) slot pid flags).checks) [] ≡ []
+wait_effects t slot pid flags = checks-change (reap (view_of t).processes slot pid flags.untraced).1 flags.no_hang (caller_of (view_of t) slot)
+
+-- a verdict to go on has no check, and one of a check is held
+pub not_held : (who : Process Path) (v : Verdict) → is_held v ≡ false → check_of who v ≡ None
+not_held who Go is = refl
+not_held who (Refused rule) is = absurd cc
+not_held who Empty is = absurd cc
+not_held who Zero is = absurd cc
+not_held who (Asleep reason) is = absurd cc
+not_held who (Stopped signal) is = absurd cc
+not_held who (Interrupted signal) is = absurd cc
+not_held who Broken is = absurd cc
+
+pub held_is : (who : Process Path) (v : Verdict) (c : Check) → check_of who v ≡ Some c → is_held v ≡ true
+held_is who Go c is = absurd cc
+held_is who (Refused rule) c is = refl
+held_is who Empty c is = refl
+held_is who Zero c is = refl
+held_is who (Asleep reason) c is = refl
+held_is who (Stopped signal) c is = refl
+held_is who (Interrupted signal) c is = refl
+held_is who Broken c is = refl
 
 reaped : (t : Tables) (done : AfterWait ℕ)
     → view_of (record t { processes = done.0 }) ≡ record (view_of t) { processes = (map_after_wait (path_of t.nodes) done).0 }

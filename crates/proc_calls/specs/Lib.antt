@@ -1,3 +1,6 @@
-pub mod Verdicts
 pub mod Halting
 pub mod Joining
+pub mod CloseNumbers
+pub mod Ends
+pub mod PsTexts
+pub mod Programs

@@ -19,13 +19,13 @@ use proc_table::{Proc, ProcTable};
 use system_model::caller;
 
 /// A text that is being made.
-type Text = ArrayVec<u8, TEXT_BYTES>;
+pub(crate) type Text = ArrayVec<u8, TEXT_BYTES>;
 
 /// How many bytes a number and the mark before it have at most.
 const PART_BYTES: usize = 11;
 
 /// Adds a colon and a number in decimal, of at most ten digits.
-fn push_part(out: &mut Text, number: u32)
+pub(crate) fn push_part(out: &mut Text, number: u32)
     requires { array_vec_len out.old + PART_BYTES ≤ TEXT_BYTES }
     ensures bytes { out.new.items ≡ out.old.items ++ codes ":" ++ decimal number }
     ensures len { array_vec_len out.new ≤ array_vec_len out.old + PART_BYTES }

@@ -4,17 +4,16 @@ ghost use Rattle.fd_table.specs.declared.open.Open.{Open};
 ghost use Rattle.fd_table.specs.Shared.{Shared};
 ghost use Rattle.tree_model.specs.Tree.{NodeAt};
 ghost use Rattle.proc_table.specs.Posts.{is_fixed};
-ghost use Rattle.proc_calls.specs.Verdicts.{check_of};
 ghost use Rattle.system_model.specs.Fit.{FitDirectories, FitSlots, IsCaller};
+ghost use Rattle.system_model.specs.Looks.{caller_of};
 ghost use Rattle.system_model.specs.SignalCalls.{sigset_row, sigtake_row, pause_row};
 ghost use Rattle.system_model.specs.Rows.{Does, first};
 ghost use Rattle.system_model.specs.Tables.{Tables, view_of};
+ghost use Rattle.system_model.specs.Verdicts.{check_of};
 
-use crate::Verdict;
-use crate::verdict::sleep;
 use call_words::{Action, Decision, Reason, Rule, Sig};
 use proc_table::ProcTable;
-use system_model::caller;
+use system_model::{Verdict, caller, sleep_verdict};
 
 /// Whether a signal does the same whatever the action is.
 fn is_fixed(sig: Sig) -> bool
@@ -60,9 +59,9 @@ pub fn do_sigtake(procs: &mut ProcTable, slot: u8) -> Decision
 /// What holds of a pause: it sleeps, or is refused by `Signal`, where a caught signal is pending.
 pub fn pause_verdict(procs: &ProcTable, slot: u8) -> Verdict
     requires caller { IsCaller procs.now slot }
-    ensures verdict { (t : Tables) → t.processes ≡ procs.now → check_of result ≡ first (pause_row (view_of t) slot).checks }
+    ensures verdict { (t : Tables) → t.processes ≡ procs.now → check_of (caller_of (view_of t) slot) result ≡ first (pause_row (view_of t) slot).checks }
 {
-    sleep(caller(procs, slot), Reason::Pause)
+    sleep_verdict(caller(procs, slot), Reason::Pause)
 }
 
 /// pause(3): sleeps until a signal is caught.

@@ -3,24 +3,24 @@ ghost use Rattle.std.specs.Prelude.{◌≡◌, List, Option};
 ghost use Rattle.fd_table.specs.declared.open.Open.{Open};
 ghost use Rattle.fd_table.specs.Shared.{Shared};
 ghost use Rattle.tree_model.specs.Tree.{NodeAt};
-ghost use Rattle.proc_calls.specs.Verdicts.{check_of};
 ghost use Rattle.system_model.specs.Fit.{FitDirectories, FitSlots, IsCaller};
+ghost use Rattle.system_model.specs.Looks.{caller_of};
 ghost use Rattle.system_model.specs.ProcCalls.{child_answer, wait_row};
 ghost use Rattle.system_model.specs.Rows.{Does, answer_of, first};
 ghost use Rattle.system_model.specs.Tables.{Tables, view_of};
+ghost use Rattle.system_model.specs.Verdicts.{check_of};
 
-use crate::Verdict;
-use crate::verdict::sleep;
 use call_words::{Decision, How, Reason, Reply, Rule, WaitFlags};
 use proc_table::ProcTable;
-use system_model::caller;
+use system_model::{Verdict, caller, sleep_verdict};
 
 /// The first check of a wait that holds: it is refused by `NoChild`, where no child is the one of the pid, or any where
 /// that is 0; it answers 0, where there is no news of such a child and it may not sleep; else it sleeps where there is
 /// no news, or is refused by `Signal`, where a caught signal is pending.
 pub fn wait_verdict(procs: &ProcTable, slot: u8, pid: u32, flags: WaitFlags) -> Verdict
     requires caller { IsCaller procs.now slot }
-    ensures verdict { (t : Tables) → t.processes ≡ procs.now → check_of result ≡ first (wait_row (view_of t) slot pid flags).checks }
+    ensures verdict { (t : Tables) → t.processes ≡ procs.now →
+        check_of (caller_of (view_of t) slot) result ≡ first (wait_row (view_of t) slot pid flags).checks }
 {
     let Ok(news) = procs.child_news(slot, pid, flags.untraced) else {
         return Verdict::Refused(Rule::NoChild);
@@ -29,9 +29,9 @@ pub fn wait_verdict(procs: &ProcTable, slot: u8, pid: u32, flags: WaitFlags) -> 
         return Verdict::Go;
     }
     if flags.no_hang {
-        return Verdict::Early;
+        return Verdict::Zero;
     }
-    sleep(caller(procs, slot), Reason::Child)
+    sleep_verdict(caller(procs, slot), Reason::Child)
 }
 
 /// wait4(2): answers the pid of a child and how it ended, of the zombie of least pid, which is no more then; else,

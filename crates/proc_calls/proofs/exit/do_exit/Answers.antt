@@ -12,7 +12,7 @@ use Rattle.system_model.specs.ProcCalls.{exit_row}
 use Rattle.system_model.specs.Tables.{view_of}
 use Rattle.system_model.proofs.RowLemmas.{refuses, goes_on}
 use Rattle.proc_calls.proofs.Changes.{denies, allows, caller_as}
-use Rattle.proc_calls.proofs.Endings.{ending_seen}
+use Rattle.proc_calls.proofs.Exits.{ending_seen}
 use Rattle.proc_calls.proofs.exit.do_exit.Goals as goal
 
 pub returns-then-caller-eq-INIT-clause-does : goal.returns-then-caller-eq-INIT-clause-does

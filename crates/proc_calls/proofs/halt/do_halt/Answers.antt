@@ -10,7 +10,7 @@ use Rattle.system_model.specs.ProcCalls.{halt_row}
 use Rattle.system_model.specs.Tables.{view_of}
 use Rattle.system_model.proofs.RowLemmas.{refuses, goes_on}
 use Rattle.proc_calls.proofs.Changes.{denies, allows, caller_as}
-use Rattle.proc_calls.proofs.Endings.{halt_seen}
+use Rattle.proc_calls.proofs.Exits.{halt_seen}
 use Rattle.proc_calls.proofs.halt.do_halt.Goals as goal
 
 pub returns-then-caller-ne0 : goal.returns-then-caller-ne0

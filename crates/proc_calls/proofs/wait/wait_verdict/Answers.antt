@@ -6,6 +6,7 @@ use Rattle.system_model.specs.Looks.{caller_of}
 use Rattle.system_model.specs.Parts.{Path}
 use Rattle.system_model.specs.Rows.{first, sleep_if, answer_if, number}
 use Rattle.system_model.specs.Tables.{view_of}
+use Rattle.system_model.specs.Verdicts.{check_of}
 use Rattle.proc_calls.proofs.Changes.{caller_as}
 use Rattle.proc_calls.proofs.Waiting.{first_check, news_go_on, no_news_here}
 use Rattle.proc_calls.proofs.wait.wait_verdict.Goals as goal
@@ -34,10 +35,11 @@ returns-then-flags c = record {
 pub returns : goal.returns
 returns c = record {
   verdict = λ t processes.
-      c.sleep.ensures t.nodes
-      ∙ ap (λ (who : Process Path). first (sleep_if true who Child ∷ []))
-      (sym (caller_as t c.args.procs.now c.args.slot (process_of c.caller.result.now) processes c.caller.ensures))
+      (let who = caller_as t c.args.procs.now c.args.slot (process_of c.caller.result.now) processes c.caller.ensures in
+      ap (λ w. check_of w c.sleep_verdict.result) who
+      ∙ c.sleep_verdict.ensures t
+      ∙ ap (λ (w : Process Path). first (sleep_if true w Child ∷ [])) (sym who)
       ∙ sym (ap (λ b. first (answer_if b (number 0) ∷ sleep_if true (caller_of (view_of t) c.args.slot) Child ∷ [])) c.if-flags.false)
       ∙ no_news_here c.in-Ok.news c.args.flags.no_hang (caller_of (view_of t) c.args.slot) (sym c.is_some.ensures ∙ c.if-is_some.false)
-      ∙ first_check t c.args.procs.now c.args.slot c.args.pid c.args.flags (Ok c.in-Ok.news) processes (sym c.in-Ok.is ∙ c.child_news.ensures);
+      ∙ first_check t c.args.procs.now c.args.slot c.args.pid c.args.flags (Ok c.in-Ok.news) processes (sym c.in-Ok.is ∙ c.child_news.ensures));
 }
