@@ -21,6 +21,7 @@ pub mod NamesText
 pub mod NamesBelow
 pub mod NamesLaws
 pub mod Finite
+pub mod Devices
 pub mod OwnPathLemmas
 pub mod AccessRules
 pub mod Ways

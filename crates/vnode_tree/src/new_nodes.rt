@@ -38,6 +38,22 @@ fn new_default(kind: Kind, default: Option<&Acl>) -> Option<Acl>
 }
 
 impl Tree {
+    /// Whether a node may be made in a directory, with a credential and a label. The directory is live.
+    ///
+    /// Denied by the first rule that holds: `LabelWrite`, where the directory's element does not dominate the label's active
+    /// one; `List`, where the directory's list refuses to write; `NodeRoom`, where the tree has 1,024 nodes.
+    pub fn may_make(&self, cred: &Cred, label: &Subject, dir: Node) -> Result<(), Rule>
+        requires { IsLive self.now dir }
+        ensures denied { result_err result ≡ make_rule_from self.now cred.now label.now dir }
+        ensures dir { record_of self.now dir ≡ at_path (nodes_from self.now) (path_of self.now dir) }
+    {
+        self.may_access(cred, label, dir, false, true, false)?;
+        if self.is_full() {
+            return Err(Rule::NodeRoom);
+        }
+        Ok(())
+    }
+
     /// Makes a node of a kind with a mode of at most 777 in octal at a free name of a directory, as open(2) and mkdir(2) do. It
     /// has the credential's uid, the label's active element and the directory's group; its list is what the directory's
     /// default list hands down, or else the mode's without the bits of the umask; a new directory takes the default list too.
@@ -68,7 +84,7 @@ impl Tree {
         ensures map { OnOk result (nodes_from self.new ≡ with_node_at (nodes_from self.old) (path_in_dir self.old dir name.now) (new_in_dir cred.now label.now umask (record_of self.old dir) kind mode)) }
         ensures dir { record_of self.old dir ≡ at_path (nodes_from self.old) (path_of self.old dir) }
     {
-        self.may_access(cred, label, dir, false, true, false)?;
+        self.may_make(cred, label, dir)?;
         let default = self.default_list(dir);
         let attrs = Attrs {
             element: label.active().copy(),
@@ -80,7 +96,7 @@ impl Tree {
         let default = new_default(kind, default);
         match self.create(dir, name, kind, attrs, default) {
             Ok(node) => Ok(node),
-            Err(TreeFull) => Err(Rule::NodeRoom),
+            Err(TreeFull) => unreachable!(),
         }
     }
 }

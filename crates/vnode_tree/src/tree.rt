@@ -1,5 +1,5 @@
 //! The tree: its nodes, made, changed and taken away.
-ghost use Rattle.std.specs.Prelude.{◌≡◌, ◌≢◌, ◌↔◌, ℕ, ◌<◌, ◌≤◌, List, [], ◌∷◌, ◌++◌, Some, None, Ok, Err, option_map, option_copied, MatchOption, length, not, IsTrue, IsErr, IfOk, OnOk, OnErr, ◌+◌};
+ghost use Rattle.std.specs.Prelude.{◌≡◌, ◌≢◌, ◌↔◌, ℕ, ◌<◌, ◌≤◌, ◌==◌, List, [], ◌∷◌, ◌++◌, Some, None, Ok, Err, option_map, option_copied, MatchOption, length, not, IsTrue, IsErr, IfOk, OnOk, OnErr, ◌+◌};
 ghost use Rattle.std.specs.Prelude.{nat_lt, codes, IsSome, false};
 ghost use Rattle.std.specs.Bool.{OnTrue, OnFalse};
 ghost use Rattle.tree_model.specs.Tree.{NodeRecord, is_dir, is_dir_record, parent_of, at_path, with_node_at, nodes_from, bytes_in};
@@ -139,6 +139,28 @@ impl Tree {
             unreachable!()
         };
         node
+    }
+
+    /// The node of a name in `/dev`, if there is one. The name is not empty. (hier(7))
+    pub fn device(&self, name: &[u8]) -> Option<Node>
+        requires { 0 < length name.now }
+        ensures { MatchOption result (at_path (nodes_from self.now) (codes "dev" ∷ name.now ∷ []) ≡ None) (IsAt self.now (codes "dev" ∷ name.now ∷ [])) }
+    {
+        let _ = &self.entries;
+        let Some(dir) = self.child(self.root(), b"dev") else {
+            return None;
+        };
+        self.child(dir, name)
+    }
+
+    /// Whether there are 1,024 nodes, and no room for one more.
+    pub fn is_full(&self) -> bool
+        ensures { result ≡ (length (nodes_from self.now) == NODES) }
+    {
+        match free_place(self.entries.as_slice()) {
+            Some(_) => false,
+            None => true,
+        }
     }
 
     /// Whether a node has children. The node is live.
@@ -359,6 +381,7 @@ impl Tree {
         requires { IsFile self.old node }
         ensures cut { self.new ≡ with_record (with_contents []) self.old node }
         ensures changes { ChangesAt (path_of self.old node) (option_map (with_contents []) (record_of self.old node)) self.old self.new }
+        ensures node { record_of self.old node ≡ at_path (nodes_from self.old) (path_of self.old node) }
         ensures map { nodes_from self.new ≡ with_node_at (nodes_from self.old) (path_of self.old node) (option_map (with_contents []) (record_of self.old node)) }
     {
         table::clear(self.entries.as_mut_slice(), node);

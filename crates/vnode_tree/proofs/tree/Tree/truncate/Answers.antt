@@ -1,6 +1,7 @@
 use Rattle.std.proofs.Common.{[]}
 use Rattle.vnode_tree.specs.Links.{entry_with_contents}
 use Rattle.vnode_tree.proofs.Calls.{entry_written}
+use Rattle.vnode_tree.proofs.Devices.{itself_there}
 use Rattle.vnode_tree.proofs.Files.{file_live, file_cut}
 use Rattle.vnode_tree.proofs.Finite.{nodes_changed}
 use Rattle.vnode_tree.proofs.Looks.{live_entry}
@@ -34,3 +35,8 @@ returns-clause-changes c =
 
 pub returns-clause-map : goal.returns-clause-map
 returns-clause-map c = nodes_changed _ _ _ _ (returns-clause-changes c)
+
+pub returns-clause-node : goal.returns-clause-node
+returns-clause-node c =
+    itself_there c.self.inside.entries.items c.args.self.now c.args.node c.self.view_is c.self.invariant
+    (file_live c.args.self.now c.args.node c.requires)
