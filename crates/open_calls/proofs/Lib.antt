@@ -1,0 +1,9 @@
+pub mod LineLooks
+pub mod NodeLooks
+pub mod RowLooks
+pub mod Kept
+pub mod OpenLemmas
+pub mod Opened
+pub mod TtyOpened
+pub mod Making
+pub mod Quiet
