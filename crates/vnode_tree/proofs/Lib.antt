@@ -26,3 +26,4 @@ pub mod OwnPathLemmas
 pub mod AccessRules
 pub mod Ways
 pub mod LineNodes
+pub mod OwnPlaces

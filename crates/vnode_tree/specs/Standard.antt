@@ -1,6 +1,6 @@
 -- What stands in a table of nodes, by the nodes that a boot makes.
 use Rattle.std.specs.Prelude.{◌≡◌, ℕ, ◌+◌, Bool, ◌&&◌, nat_lt, nat_le, is_none, List, [], ◌∷◌, ◌++◌, length, map, Option, Some}
-use Rattle.tree_model.specs.Tree.{NodeAt, is_dir_record}
+use Rattle.tree_model.specs.Tree.{NodeAt, is_dir_record, at_path, nodes_from}
 use Rattle.sys_types.specs.declared.limits.TheConstants.{NODES, FILE_SPACE}
 use Rattle.sys_types.specs.declared.limits.TheConstants.{NAME_BYTES}
 use Rattle.vnode_tree.specs.Nodes.{IsLive, node_at, record_of, path_of, tree_of, is_name, count_of}
@@ -26,3 +26,7 @@ can_add nodes dir name size =
     && is_name name && nat_le (length name) NAME_BYTES
     && nat_lt (count_of nodes) NODES
     && nat_le (space_of nodes + size) FILE_SPACE
+
+-- each node is what the tree has at its path
+pub record AreAtPaths (table : List (Option NodeAt)) : Type 0 where
+  pub each : (number : ℕ) → IsLive table number → record_of table number ≡ at_path (nodes_from table) (path_of table number)

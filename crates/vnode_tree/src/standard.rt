@@ -11,7 +11,7 @@ ghost use Rattle.tree_model.specs.Standard.{standard_tree};
 ghost use Rattle.sys_types.specs.declared.limits.TheConstants.{NODES, FILE_SPACE};
 ghost use Rattle.vnode_tree.specs.Nodes.{NodeAt, IsLive, node_at, path_of, record_of, tree_of, new_node, is_name, count_of};
 ghost use Rattle.vnode_tree.specs.Contents.{space_of};
-ghost use Rattle.vnode_tree.specs.Standard.{IsMapOf, Keeps, can_add, mode_755, attrs_of_owner, super_node, root_node, standard_dirs, image_text, image_node, list_nodes, line_node, tty_node, line_name, tty_line, ttys_text, standard, bin_node, etc_node, home_dir_node, dev_node, with_images, with_lines};
+ghost use Rattle.vnode_tree.specs.Standard.{IsMapOf, Keeps, AreAtPaths, can_add, mode_755, attrs_of_owner, super_node, root_node, standard_dirs, image_text, image_node, list_nodes, line_node, tty_node, line_name, tty_line, ttys_text, standard, bin_node, etc_node, home_dir_node, dev_node, with_images, with_lines};
 
 use crate::contents::Contents;
 use crate::entry::{Entry, Name255};
@@ -190,6 +190,7 @@ impl Tree {
         ensures etc { node_at self.new result.etc ≡ Some etc_node }
         ensures home { node_at self.new result.home ≡ Some home_dir_node }
         ensures dev { node_at self.new result.dev ≡ Some dev_node }
+        ensures keeps { Keeps self.old self.new }
     {
         let bin = self.add_dir(alloc, b"bin", 0o755, Element::Low);
         let etc = self.add_dir(alloc, b"etc", 0o755, Element::Low);
@@ -259,12 +260,15 @@ impl Tree {
         requires { IsBoot boot.now }
         ensures map { IfOk result (λ tree. IsMapOf tree (standard boot.now)) }
         ensures nodes { IfOk result (λ tree. nodes_from tree ≡ standard_tree boot.now) }
+        ensures root { IfOk result (λ tree. node_at tree 0 ≡ Some root_node) }
+        ensures places { IfOk result AreAtPaths }
     {
         let mut tree = Tree::of_root(alloc)?;
         let dirs = tree.add_dirs(alloc);
         tree.add_images(alloc, dirs.bin)?;
         tree.add_lines(alloc, dirs.dev);
         tree.add_lists(alloc, dirs.etc, &boot.on)?;
+        let _ = &tree.entries;
         Ok(tree)
     }
 }

@@ -4,6 +4,7 @@ use Rattle.user_db.proofs.NoUsers.{no_users}
 use Rattle.vnode_tree.specs.Nodes.{NodeAt}
 use Rattle.vnode_tree.specs.Standard.{IsMapOf, standard, with_lines, list_nodes, home_node}
 use Rattle.vnode_tree.proofs.Finite.{standard_nodes}
+use Rattle.vnode_tree.proofs.OwnPlaces.{at_paths}
 use Rattle.vnode_tree.proofs.tree.Tree.new.Goals as goal
 
 pub returns-clause-map : goal.returns-clause-map
@@ -17,3 +18,6 @@ returns-clause-map c =
 
 pub returns-clause-nodes : goal.returns-clause-nodes
 returns-clause-nodes c = standard_nodes _ c.args.boot.now (returns-clause-map c)
+
+pub returns-clause-places : goal.returns-clause-places
+returns-clause-places c = at_paths c.tree-2.inside.entries.items _ c.tree-2.view_is c.tree-2.invariant
