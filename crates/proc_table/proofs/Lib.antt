@@ -16,3 +16,5 @@ mod ForkRows
 mod EndingRows
 mod WaitRows
 pub mod SoundLemmas
+pub mod PendingLemmas
+pub mod RunningLemmas

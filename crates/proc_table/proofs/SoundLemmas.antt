@@ -1,7 +1,7 @@
 -- Posts and ends keep the slots, and leave on the list of those to be ended each process once.
 use Rattle.std.proofs.Common.{◌≡◌, ℕ, zero, suc, ◌<◌, ◌≤◌, Bool, true, false, cond, List, [], ◌∷◌, ◌++◌, length, fold, refl, ◌∙◌}
 use Rattle.std.proofs.Common.{subst, arith}
-use Rattle.std.specs.Prelude.{Option, Some, None, Result, Ok, Err, option_and_then, slice_index_or}
+use Rattle.std.specs.Prelude.{Option, Some, None, Err, option_and_then, slice_index_or}
 use Rattle.std.specs.List.{list_any}
 use Rattle.sys_types.specs.declared.rules.Rule.TheVariants.{NoChild}
 use Rattle.std.proofs.lemmas.List.{length-set, length-map}
