@@ -1,6 +1,6 @@
 -- The end of a process that leads a line's session revokes the line.
-use Rattle.std.proofs.Common.{◌≡◌, ℕ, zero, suc, ◌+◌, ◌-◌, ◌<◌, ◌≤◌, Bool, true, false, cond, length, List, [], ◌∷◌, ◌++◌, refl, ap, sym, ◌∙◌, subst, arith}
-use Rattle.std.specs.Prelude.{◌==◌, ◌||◌, Option, Some, None, slice_get}
+use Rattle.std.proofs.Common.{◌≡◌, ℕ, suc, ◌+◌, ◌-◌, ◌<◌, Bool, true, false, length, List, [], ◌∷◌, ◌++◌, refl, subst, arith}
+use Rattle.std.specs.Prelude.{◌==◌, ◌||◌, Option, Some, slice_get}
 use Rattle.std.specs.List.{list_any}
 use Rattle.std.proofs.lemmas.Bool.{eqb-true, eq-eqb}
 use Rattle.sys_types.specs.declared.limits.TheConstants.{SLOTS}
@@ -9,13 +9,12 @@ use Rattle.call_words.specs.declared.event.How.{How}
 use Rattle.proc_table.specs.Processes.{Process}
 use Rattle.system_model.specs.Parts.{Path}
 use Rattle.system_model.specs.State.{View}
-use Rattle.system_model.specs.LineEffects.{revoke_line}
 use Rattle.system_model.specs.ProcessEffects.{bury, clear_ending}
-use Rattle.system_model.specs.Effects.{Effect, on_lines, on_processes, change_all}
+use Rattle.system_model.specs.Effects.{Effect, on_processes, change_all}
 use Rattle.system_model.specs.Rows.{done}
 use Rattle.system_model.specs.Looks.{caller_of, line_of_session}
 use Rattle.system_model.specs.Endings.{close_all, leave_line, leave_session, end_one, end_next, endings, endings_of}
-use Rattle.system_model.specs.Step.{row, effects_of}
+use Rattle.system_model.specs.Step.{row}
 use Rattle.system_laws.specs.Laws.{is_revoke_of, before_ending, revokes_line}
 use Rattle.system_laws.proofs.Fuel.{endings_step, endings-parts, none-more}
 

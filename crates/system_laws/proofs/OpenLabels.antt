@@ -53,7 +53,7 @@ no-check : (rule : Option Rule) → deny_by rule ≡ None → rule ≡ None
 no-check None is = refl
 no-check (Some r) is = cc
 
-may-open : (v : View) (slot : ℕ) (access : Access) (place : Path) → access_check v slot place (can_read access) (can_write access) false ≡ None
+pub may-open : (v : View) (slot : ℕ) (access : Access) (place : Path) → access_check v slot place (can_read access) (can_write access) false ≡ None
     → MayOpen v slot access place
 may-open v slot access place is = may-open-node v slot access place (node_at v place) refl (no-check _ is)
 

@@ -253,7 +253,8 @@ calm_place : (v : View) (slot : ℕ) (place : Path) (access : Access) (flags : O
 calm_place v slot place access flags None = calm_end
 calm_place v slot place access flags (Some what) = calm_kind v slot place access flags what what.kind
 
-calm_open : (v : View) (slot : ℕ) (access : Access) (flags : OpenFlags) (mode : ℕ) (end : WalkEnd) → Calm (opens.open_at v slot access flags mode end).effects
+pub calm_open : (v : View) (slot : ℕ) (access : Access) (flags : OpenFlags) (mode : ℕ) (end : WalkEnd)
+    → Calm (opens.open_at v slot access flags mode end).effects
 calm_open v slot access flags mode (found place) = calm_place v slot place access flags (node_at v place)
 calm_open v slot access flags mode (absent dir name) = calm_next _ _ refl (calm_next _ _ refl calm_end)
 calm_open v slot access flags mode missing = calm_end
@@ -265,51 +266,63 @@ calm_open v slot access flags mode path_long = calm_end
 unfoldable pub Ordered : List Effect → Type 0
 Ordered es = NoOpen es ⊎ Calm es
 
+-- the calls that open files
+abbrev pub is_opener : Call → Bool
+is_opener (call.Open path access flags mode) = true
+is_opener call.Pipe = true
+is_opener _ = false
+
+-- none of the others does
+pub unopened_call : (v : View) (slot : ℕ) (c : Call) → is_opener c ≡ false → NoOpen (call_row v slot c).effects
+unopened_call v slot (call.Open path access flags mode) other = cc
+unopened_call v slot (call.Close fd) other = search unopened
+unopened_call v slot (call.Dup fd) other = search unopened
+unopened_call v slot (call.Dup2 fd into) other = open_dup2 v slot fd into
+unopened_call v slot (call.Read fd max) other = open_read_at v slot fd max (file_at v slot fd)
+unopened_call v slot (call.Write fd bytes) other = open_write_at v slot fd bytes (file_at v slot fd)
+unopened_call v slot call.Pipe other = cc
+unopened_call v slot (call.Chdir path) other = search unopened
+unopened_call v slot (call.Mkdir path mode) other = open_mkdir v slot mode (end_of v slot path)
+unopened_call v slot (call.Rmdir path) other = search unopened
+unopened_call v slot (call.Unlink path) other = search unopened
+unopened_call v slot (call.List path from) other = no_effect
+unopened_call v slot (call.Info path) other = no_effect
+unopened_call v slot (call.Chmod path mode) other = search unopened
+unopened_call v slot (call.Chown path uid gid) other = search unopened
+unopened_call v slot (call.SetAcl path which list) other = search unopened
+unopened_call v slot (call.GetAcl path which) other = no_effect
+unopened_call v slot (call.SetLabel path element) other = search unopened
+unopened_call v slot (call.GetLabel path) other = no_effect
+unopened_call v slot (call.SetProcLabel subject) other = search unopened
+unopened_call v slot call.Ident other = no_effect
+unopened_call v slot (call.SetCred cred) other = search unopened
+unopened_call v slot (call.Umask mode) other = search unopened
+unopened_call v slot call.Begin other = search unopened
+unopened_call v slot (call.Fork note) other = search unopened
+unopened_call v slot (call.Exec path args) other = search unopened
+unopened_call v slot (call.Exit status) other = search unopened
+unopened_call v slot (call.Wait pid flags) other = search unopened
+unopened_call v slot call.SetSid other = search unopened
+unopened_call v slot (call.SetPgid pid group) other = open_setpgid v slot group (setpgid_target v.processes (caller_of v slot) pid)
+unopened_call v slot call.Ps other = no_effect
+unopened_call v slot call.Halt other = search unopened
+unopened_call v slot (call.Kill to signal) other = search unopened
+unopened_call v slot (call.SigSet signal action) other = search unopened
+unopened_call v slot call.SigTake other = open_sigtake slot (caller_of v slot) (least_caught (caller_of v slot))
+unopened_call v slot call.Pause other = no_effect
+unopened_call v slot (call.SetCtty fd) other = open_on_line (ttys.setctty_on v slot) (ttys.tty_at v slot fd) (λ n. search unopened)
+unopened_call v slot (call.TcGetAttr fd) other = open_on_line (λ n. only (text (termios_text (termios_of v n)))) (ttys.tty_at v slot fd) (λ n. no_effect)
+unopened_call v slot (call.TcSetAttr fd at termios) other =
+    open_on_line (ttys.tcsetattr_on v slot at termios) (ttys.tty_at v slot fd) (λ n. search (unopened, open_flush))
+unopened_call v slot (call.TcFlush fd which) other = open_on_line (ttys.tcflush_on v slot which) (ttys.tty_at v slot fd) (λ n. search unopened)
+unopened_call v slot (call.TcDrain fd) other = open_on_line (ttys.tcdrain_on v slot) (ttys.tty_at v slot fd) (λ n. no_effect)
+unopened_call v slot (call.TcSetPgrp fd group) other = open_on_line (ttys.tcsetpgrp_on v slot group) (ttys.tty_at v slot fd) (λ n. search unopened)
+unopened_call v slot (call.TcGetPgrp fd) other = open_on_line (ttys.tcgetpgrp_on v slot) (ttys.tty_at v slot fd) (λ n. no_effect)
+unopened_call v slot (call.FdName fd) other = no_effect
+unopened_call v slot (call.Revoke path) other = open_revoke v (caller_of v slot) (ttys.tty_of_node (node_at v (path_at (end_of v slot path))))
+
 pub ordered_call : (v : View) (slot : ℕ) (c : Call) → Ordered (call_row v slot c).effects
 unfolding Ordered
 ordered_call v slot (call.Open path access flags mode) = inr (calm_open v slot access flags mode (end_of v slot path))
-ordered_call v slot (call.Close fd) = inl (search unopened)
-ordered_call v slot (call.Dup fd) = inl (search unopened)
-ordered_call v slot (call.Dup2 fd into) = inl (open_dup2 v slot fd into)
-ordered_call v slot (call.Read fd max) = inl (open_read_at v slot fd max (file_at v slot fd))
-ordered_call v slot (call.Write fd bytes) = inl (open_write_at v slot fd bytes (file_at v slot fd))
 ordered_call v slot call.Pipe = inr (calm_next _ _ refl (calm_next _ _ refl (calm_next _ _ refl calm_end)))
-ordered_call v slot (call.Chdir path) = inl (search unopened)
-ordered_call v slot (call.Mkdir path mode) = inl (open_mkdir v slot mode (end_of v slot path))
-ordered_call v slot (call.Rmdir path) = inl (search unopened)
-ordered_call v slot (call.Unlink path) = inl (search unopened)
-ordered_call v slot (call.List path from) = inl (no_effect)
-ordered_call v slot (call.Info path) = inl (no_effect)
-ordered_call v slot (call.Chmod path mode) = inl (search unopened)
-ordered_call v slot (call.Chown path uid gid) = inl (search unopened)
-ordered_call v slot (call.SetAcl path which list) = inl (search unopened)
-ordered_call v slot (call.GetAcl path which) = inl (no_effect)
-ordered_call v slot (call.SetLabel path element) = inl (search unopened)
-ordered_call v slot (call.GetLabel path) = inl (no_effect)
-ordered_call v slot (call.SetProcLabel subject) = inl (search unopened)
-ordered_call v slot call.Ident = inl (no_effect)
-ordered_call v slot (call.SetCred cred) = inl (search unopened)
-ordered_call v slot (call.Umask mode) = inl (search unopened)
-ordered_call v slot call.Begin = inl (search unopened)
-ordered_call v slot (call.Fork note) = inl (search unopened)
-ordered_call v slot (call.Exec path args) = inl (search unopened)
-ordered_call v slot (call.Exit status) = inl (search unopened)
-ordered_call v slot (call.Wait pid flags) = inl (search unopened)
-ordered_call v slot call.SetSid = inl (search unopened)
-ordered_call v slot (call.SetPgid pid group) = inl (open_setpgid v slot group (setpgid_target v.processes (caller_of v slot) pid))
-ordered_call v slot call.Ps = inl (no_effect)
-ordered_call v slot call.Halt = inl (search unopened)
-ordered_call v slot (call.Kill to signal) = inl (search unopened)
-ordered_call v slot (call.SigSet signal action) = inl (search unopened)
-ordered_call v slot call.SigTake = inl (open_sigtake slot (caller_of v slot) (least_caught (caller_of v slot)))
-ordered_call v slot call.Pause = inl (no_effect)
-ordered_call v slot (call.SetCtty fd) = inl (open_on_line (ttys.setctty_on v slot) (ttys.tty_at v slot fd) (λ n. search unopened))
-ordered_call v slot (call.TcGetAttr fd) = inl (open_on_line (λ n. only (text (termios_text (termios_of v n)))) (ttys.tty_at v slot fd) (λ n. no_effect))
-ordered_call v slot (call.TcSetAttr fd at termios) =
-    inl (open_on_line (ttys.tcsetattr_on v slot at termios) (ttys.tty_at v slot fd) (λ n. search (unopened, open_flush)))
-ordered_call v slot (call.TcFlush fd which) = inl (open_on_line (ttys.tcflush_on v slot which) (ttys.tty_at v slot fd) (λ n. search unopened))
-ordered_call v slot (call.TcDrain fd) = inl (open_on_line (ttys.tcdrain_on v slot) (ttys.tty_at v slot fd) (λ n. no_effect))
-ordered_call v slot (call.TcSetPgrp fd group) = inl (open_on_line (ttys.tcsetpgrp_on v slot group) (ttys.tty_at v slot fd) (λ n. search unopened))
-ordered_call v slot (call.TcGetPgrp fd) = inl (open_on_line (ttys.tcgetpgrp_on v slot) (ttys.tty_at v slot fd) (λ n. no_effect))
-ordered_call v slot (call.FdName fd) = inl (no_effect)
-ordered_call v slot (call.Revoke path) = inl (open_revoke v (caller_of v slot) (ttys.tty_of_node (node_at v (path_at (end_of v slot path)))))
+ordered_call v slot c = inl (unopened_call v slot c refl)

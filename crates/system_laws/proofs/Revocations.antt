@@ -106,7 +106,7 @@ dead-answer _ _ sleeps wakes g (no_writes fd bs) = inr refl
 dead-answer _ _ sleeps wakes g (dead_write fd bs) = inl refl
 dead-answer _ _ sleeps wakes g (dead_drain fd) = refl
 
-dead-effects : (c : Call) (o : Option Check) (sleeps wakes es : List Effect) → IsDeadCheck c o → effects_by (option_map (also sleeps wakes) o) es ≡ wakes
+pub dead-effects : (c : Call) (o : Option Check) (sleeps wakes es : List Effect) → IsDeadCheck c o → effects_by (option_map (also sleeps wakes) o) es ≡ wakes
 dead-effects _ _ sleeps wakes es (too_many fd max) = refl
 dead-effects _ _ sleeps wakes es (no_reads fd max) = refl
 dead-effects _ _ sleeps wakes es (no_bytes fd max) = refl

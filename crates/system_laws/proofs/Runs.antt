@@ -91,7 +91,7 @@ release-ending : (v : View) (f : Option OpenFile) → (release seeing v f).endin
 release-ending v None = refl
 release-ending v (Some f) = target-ending v f.dead f.file.target
 
-files-ending : (v : View) (e : FileEffect) → (change_files seeing v e).ending ≡ v.ending
+pub files-ending : (v : View) (e : FileEffect) → (change_files seeing v e).ending ≡ v.ending
 unfolding change_files
 files-ending v (open_file slot file on_exec) = refl
 files-ending v (copy_fd slot from into) = refl
@@ -99,13 +99,13 @@ files-ending v (close_fd slot fd) = release-ending (record v { descriptors = dro
 files-ending v (fork_fds from into) = refl
 files-ending v (set_offset slot fd offset) = refl
 
-pipes-ending : (v : View) (e : PipeEffect) → (change_pipes seeing v e).ending ≡ v.ending
+pub pipes-ending : (v : View) (e : PipeEffect) → (change_pipes seeing v e).ending ≡ v.ending
 unfolding change_pipes
 pipes-ending v (add_pipe element) = refl
 pipes-ending v (put_pipe k bytes) = refl
 pipes-ending v (take_pipe k max) = refl
 
-lines-ending : (v : View) (e : LineEffect) → (change_lines seeing v e).ending ≡ v.ending
+pub lines-ending : (v : View) (e : LineEffect) → (change_lines seeing v e).ending ≡ v.ending
 unfolding change_lines
 lines-ending v (open_line n t) = refl
 lines-ending v (receive_byte n b) = refl
@@ -136,7 +136,7 @@ cleared : (v : View) → (change v (on_processes clear_ending)).ending ≡ []
 unfolding change_processes
 cleared v = refl
 
-view-ending : (s : State) → (view s).ending ≡ s.parts.ending
+pub view-ending : (s : State) → (view s).ending ≡ s.parts.ending
 unfolding view
 view-ending s = refl
 
@@ -150,7 +150,7 @@ calm-one v (on_processes e) is = processes-ending v e is
 calm-one v halt is = refl
 
 -- effects that end nobody leave it that nobody is to be ended
-calm-ending : (v : View) (es : List Effect) → Calm es → (change_all v es).ending ≡ v.ending
+pub calm-ending : (v : View) (es : List Effect) → Calm es → (change_all v es).ending ≡ v.ending
 calm-ending v [] calm_end = refl
 calm-ending v (e ∷ es) (calm_next _ _ is more) = calm-ending (change v e) es more ∙ calm-one v e is
 
@@ -183,7 +183,7 @@ later-file : (q : ℕ) (f : Option NamedFile) → IsEarlier q f → IsEarlier (q
 later-file q None is = tt
 later-file q (Some f) is = omega arith
 
-later-files : (q : ℕ) (files : List (Option NamedFile)) → AreEarlier q files → AreEarlier (q + 1) files
+pub later-files : (q : ℕ) (files : List (Option NamedFile)) → AreEarlier q files → AreEarlier (q + 1) files
 later-files q [] are = tt
 later-files q (f ∷ fs) are = (later-file q f are.0, later-files q fs are.1)
 

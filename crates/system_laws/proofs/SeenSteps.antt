@@ -83,7 +83,7 @@ earlier-set q [] i f is are = are
 earlier-set q (g ∷ gs) zero f is are = (is, are.1)
 earlier-set q (g ∷ gs) (suc i) f is are = (are.0, earlier-set q gs i f is are.1)
 
-earlier-at : (q : ℕ) (files : List (Option NamedFile)) (i : ℕ) → AreEarlier q files → IsEarlier q (entry_at files i)
+pub earlier-at : (q : ℕ) (files : List (Option NamedFile)) (i : ℕ) → AreEarlier q files → IsEarlier q (entry_at files i)
 earlier-at q [] i are = tt
 earlier-at q (g ∷ gs) zero are = are.0
 earlier-at q (g ∷ gs) (suc i) are = earlier-at q gs i are.1
@@ -130,7 +130,8 @@ target-files p revokes m dead (write_end k) = pipe-files p revokes m k
 target-files p revokes m true (tty n) = refl
 target-files p revokes m false (tty n) = line-files p revokes m n
 
-release-files : (p : ℕ) (revokes : Revokes) (m : Parts NamedFile Tagged) (f : Option NamedFile) → (release (tagging p revokes) m f).descriptors ≡ m.descriptors
+pub release-files : (p : ℕ) (revokes : Revokes) (m : Parts NamedFile Tagged) (f : Option NamedFile)
+    → (release (tagging p revokes) m f).descriptors ≡ m.descriptors
 release-files p revokes m None = refl
 release-files p revokes m (Some f) = target-files p revokes m (is_revoked revokes f.name.made f.file.target) f.file.target
 
@@ -152,7 +153,8 @@ earlier-files q p revokes m (fork_fds from into) which are = are
 earlier-files q p revokes m (set_offset slot fd offset) which are =
     earlier-changed q offset (descriptor_at m.descriptors.table slot fd) m.descriptors.files revokes p are
 
-earlier-lines : (p : ℕ) (revokes : Revokes) (m : Parts NamedFile Tagged) (e : LineEffect) → (change_lines (tagging p revokes) m e).descriptors ≡ m.descriptors
+pub earlier-lines : (p : ℕ) (revokes : Revokes) (m : Parts NamedFile Tagged) (e : LineEffect)
+    → (change_lines (tagging p revokes) m e).descriptors ≡ m.descriptors
 unfolding change_lines
 earlier-lines p revokes m (open_line n t) = refl
 earlier-lines p revokes m (receive_byte n b) = refl
@@ -167,7 +169,7 @@ earlier-lines p revokes m (retune_line n t) = refl
 earlier-lines p revokes m (set_session n session group) = refl
 earlier-lines p revokes m (set_foreground n group) = refl
 
-earlier-processes : (m : Parts NamedFile Tagged) (e : ProcessEffect) → (change_processes m e).descriptors ≡ m.descriptors
+pub earlier-processes : (m : Parts NamedFile Tagged) (e : ProcessEffect) → (change_processes m e).descriptors ≡ m.descriptors
 unfolding change_processes
 earlier-processes m (set_process slot process) = refl
 earlier-processes m (fork_process slot note) = refl
@@ -179,7 +181,8 @@ earlier-processes m (add_ending slot how) = refl
 earlier-processes m (bury slot how) = refl
 earlier-processes m clear_ending = refl
 
-earlier-pipes : (p : ℕ) (revokes : Revokes) (m : Parts NamedFile Tagged) (e : PipeEffect) → (change_pipes (tagging p revokes) m e).descriptors ≡ m.descriptors
+pub earlier-pipes : (p : ℕ) (revokes : Revokes) (m : Parts NamedFile Tagged) (e : PipeEffect)
+    → (change_pipes (tagging p revokes) m e).descriptors ≡ m.descriptors
 unfolding change_pipes
 earlier-pipes p revokes m (add_pipe element) = refl
 earlier-pipes p revokes m (put_pipe k bytes) = refl

@@ -1,5 +1,5 @@
 -- Laws of a run: of each of its events, with the state before it and its position.
-use Rattle.std.specs.Prelude.{◌≡◌, ◌⊎◌, ℕ, ◌+◌, ◌<◌, Bool, true, false, List, [], Option, Some, None, is_some, slice_get, ◌==◌, if◌then◌else◌}
+use Rattle.std.specs.Prelude.{◌≡◌, ◌⊎◌, ℕ, ◌+◌, ◌<◌, ◌≤◌, Bool, true, false, List, [], ◌∷◌, ◌++◌, Option, Some, None, is_some, slice_get, ◌==◌, if◌then◌else◌}
 use Rattle.std.specs.List.{list_all, list_any}
 use Rattle.sys_types.specs.declared.limits.TheConstants.{SLOTS}
 use Rattle.sys_types.specs.declared.sig.Sig.{Sig}
@@ -13,17 +13,22 @@ use Rattle.call_words.specs.declared.event.Event.TheVariants as event
 use Rattle.call_words.specs.declared.event.Decision.{Decision}
 use Rattle.call_words.specs.declared.event.How.{How}
 use Rattle.call_words.specs.declared.event.Reason.{Reason}
-use Rattle.call_words.specs.declared.event.Reply.TheVariants.{Num, Bytes, Denied}
+use Rattle.call_words.specs.declared.event.Reply.TheVariants.{Num, Pair, Bytes, Denied}
 use Rattle.call_words.specs.declared.event.Decision.TheVariants.{Answer, Sleep}
+use Rattle.sys_types.specs.declared.node.Kind.{Kind}
 use Rattle.sys_types.specs.declared.node.Kind.TheVariants as kind
 use Rattle.call_words.specs.declared.open.Access.{Access}
 use Rattle.call_words.specs.declared.open.OpenFlags.{OpenFlags}
 use Rattle.call_words.specs.Calls.{can_read, can_write}
-use Rattle.tree_model.specs.Tree.{NodeRecord, found}
+use Rattle.user_db.specs.declared.boot.Boot.{Boot}
+use Rattle.fd_table.specs.Shared.{entry_at}
+use Rattle.pipe_core.specs.Pipes.{element_at}
+use Rattle.tree_model.specs.Tree.{NodeRecord, found, absent}
 use Rattle.tree_model.specs.Paths.{path_at}
 use Rattle.proc_table.specs.Processes.{Process, is_stopped, running_at, pending_at}
-use Rattle.system_model.specs.Parts.{Path}
-use Rattle.system_model.specs.State.{last_revoke, OpenFile, State, View, view}
+use Rattle.system_model.specs.Parts.{Path, Target, node, read_end, write_end, tty, File}
+use Rattle.system_model.specs.State.{last_revoke, NamedFile, OpenFile, State, View, view}
+use Rattle.system_model.specs.FileEffects.{at_offset}
 use Rattle.system_model.specs.ProcessEffects.{ProcessEffect, set_pending, post}
 use Rattle.system_model.specs.Effects.{Effect, on_files, on_pipes, on_lines, on_tree, on_processes, halt, change_all}
 use Rattle.system_model.specs.Rows.{Given, refused, early, asleep, answer_of, first, done}
@@ -31,10 +36,13 @@ use Rattle.system_model.specs.LineEffects.{LineEffect, open_line, receive_byte, 
 use Rattle.system_model.specs.LineEffects.{flush_line, retune_line, set_session, set_foreground}
 use Rattle.system_model.specs.Endings.{endings}
 use Rattle.system_model.specs.Looks.{caller_of, file_at, holds_of, end_of, node_at, dominates_node, node_dominates, tty_path, line_of_session}
-use Rattle.system_model.specs.OpenCalls.{own_tty}
+use Rattle.system_model.specs.Looks.{path_check, access_check, make_check}
+use Rattle.system_model.specs.OpenCalls.{own_tty, file_for}
+use Rattle.system_model.specs.PipeCalls.{pipe_file}
 use Rattle.system_model.specs.IoCalls.{may_not_read, may_not_write}
 use Rattle.system_model.specs.TtyCalls.{tty_of_node}
 use Rattle.system_model.specs.Step.{row, answer_to, effects_of, step, view_after, waits, is_idle, can_go_on}
+use Rattle.system_model.specs.Run.{state_after}
 
 -- ---- refusals
 
@@ -219,3 +227,99 @@ pub record Waits (v : View) : Type 0 where
 -- All whom an event ends are ended: with more endings than there are slots nobody more would be.
 pub record EndsAll (s : State) (p : ℕ) (e : Event) : Type 0 where
   pub enough : (more : ℕ) → let now = change_all (view s) (done (row (view s) e)) in endings (SLOTS + more) 0 now ≡ endings SLOTS 0 now
+
+-- ---- origins
+
+-- At a place is a node of this kind, and no rule denies the caller this access to it, by its labels or by the node's access list.
+pub record MayUse (v : View) (slot : ℕ) (access : Access) (place : Path) (k : Kind) : Type 0 where
+  pub what : NodeRecord
+  pub there : node_at v place ≡ Some what
+  pub is : what.kind ≡ k
+  pub allowed : access_check v slot place (can_read access) (can_write access) false ≡ None
+  pub labels : MayOpen v slot access place
+
+-- The event makes a regular file at a name where nothing was, in a directory in which no rule denies it the caller; the file has the caller's uid and
+-- element.
+pub record IsMadeBy (v : View) (e : Event) (slot : ℕ) (dir : Path) (name : List ℕ) : Type 0 where
+  pub directory : NodeRecord
+  pub inside : node_at v dir ≡ Some directory
+  pub allowed : make_check v slot dir ≡ None
+  pub free : node_at v (dir ++ name ∷ []) ≡ None
+  pub what : NodeRecord
+  pub there : node_at (view_after v e) (dir ++ name ∷ []) ≡ Some what
+  pub is : what.kind ≡ kind.File
+  pub owner : what.attrs.owner ≡ (caller_of v slot).cred.uid
+  pub element : what.attrs.element ≡ (caller_of v slot).label.active
+
+-- What an open of a path opens: the regular file that the path leads to; the line whose own node it leads to; where it leads to /dev/tty the line of the
+-- caller's session, whose own node may be used too; or a new file.
+pub data Opens (v : View) (e : Event) (slot : ℕ) (path : List ℕ) (access : Access) (flags : OpenFlags) (target : Target) : Type 0 where
+  a_file : (place : Path) → end_of v slot path ≡ found place → MayUse v slot access place kind.File → target ≡ node place
+      → Opens v e slot path access flags target
+  a_line : (n : ℕ) → end_of v slot path ≡ found (tty_path n) → MayUse v slot access (tty_path n) (kind.Line n) → target ≡ tty n
+      → Opens v e slot path access flags target
+  own_line : (place : Path) (n : ℕ) → end_of v slot path ≡ found place → MayUse v slot access place kind.Tty → own_tty v slot ≡ Some n
+      → MayUse v slot access (tty_path n) (kind.Line n) → target ≡ tty n → Opens v e slot path access flags target
+  new_file : (dir : Path) (name : List ℕ) → end_of v slot path ≡ absent dir name → flags.create ≡ true → IsMadeBy v e slot dir name
+      → target ≡ node (dir ++ name ∷ []) → Opens v e slot path access flags target
+
+-- An event opens a file: it asks an open(2) that is answered a number, of a path on which no rule denies the caller a part, or a pipe(2), whose pipe is
+-- new and has the caller's element.
+pub data IsOpenedBy (v : View) (e : Event) (file : File) : Type 0 where
+  by_open : (slot : ℕ) (path : List ℕ) (access : Access) (flags : OpenFlags) (mode n : ℕ) (target : Target)
+      → asks_call v e slot (call.Open path access flags mode) → CanRun v slot → answer_to v e ≡ Answer (Num n)
+      → path_check v slot path ≡ None → Opens v e slot path access flags target → file ≡ file_for access flags target → IsOpenedBy v e file
+  by_pipe : (slot k r w : ℕ) (target : Target) → asks_call v e slot call.Pipe → CanRun v slot → answer_to v e ≡ Answer (Pair r w)
+      → (target ≡ read_end k) ⊎ (target ≡ write_end k) → element_at v.pipes k ≡ None
+      → element_at (view_after v e).pipes k ≡ Some (caller_of v slot).label.active → file ≡ pipe_file target → IsOpenedBy v e file
+
+-- The name of an open file tells how many events were before the one that made it, which opened it as it is but for its offset.
+pub record IsOpenedWell (says : Boot) (es : List Event) (n : ℕ) (f : NamedFile) : Type 0 where
+  pub before : ℕ
+  pub past : before < n
+  pub made : f.name.made ≡ before + 1
+  pub event : Event
+  pub at : slice_get es before ≡ Some event
+  pub opened : IsOpenedBy (view (state_after says es before)) event (at_offset 0 f.file)
+
+-- At every moment of a run each open file was opened so.
+pub record AreOpenedWell (says : Boot) (es : List Event) : Type 0 where
+  pub each : (n entry : ℕ) (f : NamedFile) → entry_at (state_after says es n).parts.descriptors.files entry ≡ Some f → IsOpenedWell says es n f
+
+-- ---- sleepers
+
+-- the slot has a pending call through a number that is of an open file of the line
+pub record WaitsThrough (v : View) (slot line : ℕ) (c : Call) : Type 0 where
+  pub pends : pending_at v.processes slot ≡ Some c
+  pub fd : ℕ
+  pub number : fd_of c ≡ Some fd
+  pub file : OpenFile
+  pub there : file_at v slot fd ≡ Some file
+  pub of_line : file.file.target ≡ tty line
+
+-- The event that comes after q others revokes a line, and right after it the slot waits in a call through an open file of the line.
+pub record SleepsAtRevoke (says : Boot) (es : List Event) (q slot : ℕ) (c : Call) : Type 0 where
+  pub event : Event
+  pub at : slice_get es q ≡ Some event
+  pub line : ℕ
+  pub revoked : revokes_line (view (state_after says es q)) event line ≡ true
+  pub waits : WaitsThrough (view (state_after says es (q + 1))) slot line c
+
+-- The call is the slot's pending one after that event and after each of k more, and then its process runs and is not stopped.
+pub record StillWaits (says : Boot) (es : List Event) (q k slot : ℕ) (c : Call) : Type 0 where
+  pub pends : (j : ℕ) → j ≤ k → pending_at (view (state_after says es (q + 1 + j))).processes slot ≡ Some c
+  pub able : CanRun (view (state_after says es (q + 1 + k))) slot
+
+-- Who sleeps at a revoke can go on right after it, unless its process is stopped, and whatever events come between, as long as its call is pending. The
+-- next try of the call is answered as a dead file answers, and does nothing else than take the pending call away.
+pub record WakesSleepers (says : Boot) (es : List Event) : Type 0 where
+  pub listed : (q slot : ℕ) (c : Call) → SleepsAtRevoke says es q slot c → CanRun (view (state_after says es (q + 1))) slot
+      → can_go_on (view (state_after says es (q + 1))) slot ≡ true
+  pub still_listed : (q k slot : ℕ) (c : Call) → SleepsAtRevoke says es q slot c → StillWaits says es q k slot c
+      → can_go_on (view (state_after says es (q + 1 + k))) slot ≡ true
+  pub answered : (q k slot : ℕ) (c : Call) → SleepsAtRevoke says es q slot c → StillWaits says es q k slot c
+      → slice_get es (q + 1 + k) ≡ Some (event.Again slot)
+      → IsDeadAnswer c (answer_to (view (state_after says es (q + 1 + k))) (event.Again slot))
+  pub moves_nothing : (q k slot : ℕ) (c : Call) → SleepsAtRevoke says es q slot c → StillWaits says es q k slot c
+      → slice_get es (q + 1 + k) ≡ Some (event.Again slot)
+      → effects_of (view (state_after says es (q + 1 + k))) (event.Again slot) ≡ on_processes (set_pending slot None) ∷ []

@@ -1,6 +1,8 @@
 //! The laws of the whole machine, proved of its definitions: they need no kernel.
 //!
-//! `specs/Laws` says what holds of each event of a run: refusals, revokes, labels, who waits; `specs/Stands` for which states a kernel
-//! stands. `proofs/` shows that what calls see steps as the state does, that the endings of an event come to an end, and that the laws
-//! hold of every run.
+//! `specs/Laws` says what holds of each event of a run: refusals, revokes, labels, opens, who waits, and from which event each open file is;
+//! `specs/RunLaws` says it of whole runs from a boot, `specs/Stands` for which states a kernel stands, and `specs/PendingCalls`, `EndingLists` and
+//! `WaitingCalls` what a kernel asks besides: the calls that slots wait in, who is still to be ended, and which calls can wait. `proofs/` shows
+//! that what calls see steps as the state does, that the endings of an event come to an end, that these laws hold of every run (`RunsObey`), and
+//! what each event leaves of the kernel's bounds (`EventsKept`, `EndingRuns`).
 #![tactic(auto)]
