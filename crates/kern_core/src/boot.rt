@@ -1,36 +1,46 @@
-//! The process that runs at boot.
-ghost use Rattle.std.specs.Prelude.{◌≡◌, []};
-ghost use Rattle.label_core.specs.declared.element.Element.TheVariants.{Low, Equal, High};
+//! The kernel at boot.
+ghost use Rattle.std.specs.Prelude.{◌≡◌, IfOk};
+ghost use Rattle.user_db.specs.Boot.{IsBoot};
+ghost use Rattle.system_model.specs.State.{boot};
+ghost use Rattle.system_model.specs.Tables.{view_of};
+ghost use Rattle.system_laws.specs.Stands.{Stands};
+ghost use Rattle.kern_core.specs.Bounds.{IsAfter};
 
-use acl_core::Cred;
-use arrayvec::ArrayVec;
-use call_words::Node;
-use file_calls::Caller;
-use label_core::{Element, Subject};
+use crate::kernel::Kernel;
+use block_pool::Pool;
+use fd_table::FdTable;
+use pipe_core::Pipes;
+use proc_table::{EndingList, ProcTable};
+use std::alloc::Global;
+use sys_types::POOL_BLOCKS;
+use tty_dev::table::lines_at_boot;
+use user_db::Boot;
+use vnode_tree::{NoMemory, Tree};
 
-/// The uid and the gid of the superuser.
-const SUPER: u32 = 0;
-
-/// The umask at boot (umask(2)).
-const FIRST_UMASK: u16 = 0o022;
-
-/// The superuser in a directory, with a label that every file lets pass and that may become every other (mac_mls(4)).
-#[tactic(auto, unfolding(label_core::specs::Element::dom))]
-pub fn first_caller(directory: Node) -> Caller
-    ensures cred { result.cred ≡ record { uid = 0; gid = 0; groups = record { items = [] } } }
-    ensures label { result.label ≡ record { active = Equal; low = Low; high = High } }
-    ensures directory { result.directory ≡ directory }
-    ensures umask { result.umask ≡ 18 }
-{
-    let label = Subject::new(Element::Equal, Element::Low, Element::High).unwrap();
-    Caller {
-        cred: Cred {
-            uid: SUPER,
-            gid: SUPER,
-            groups: ArrayVec::new(),
-        },
-        label,
-        directory,
-        umask: FIRST_UMASK,
+impl Kernel {
+    /// The kernel as it stands at boot: the tree that the boot makes, pid 1 in slot 0, and nothing open. All memory is taken here but that of
+    /// what files hold; `NoMemory`, where it runs out, is the only error.
+    ///
+    /// The boot is one that some boot text gives.
+    pub fn boot(alloc: Global, says: &Boot) -> Result<Self, NoMemory>
+        requires { IsBoot says.now }
+        ensures stands { IfOk result (λ kernel. Stands (view_of kernel) 0 (boot says.now)) }
+        ensures after { IfOk result (λ kernel. IsAfter 0 kernel) }
+    {
+        let tree = Tree::new(alloc, says)?;
+        let fds = FdTable::new(alloc)?;
+        let procs = ProcTable::new(alloc)?;
+        let pool = Pool::new(alloc, POOL_BLOCKS)?;
+        Ok(Kernel {
+            tree,
+            fds,
+            pipes: Pipes::new(),
+            procs,
+            pool,
+            lines: lines_at_boot(),
+            ending: EndingList::new(),
+            recheck: says.recheck,
+            halted: false,
+        })
     }
 }

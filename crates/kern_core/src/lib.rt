@@ -1,13 +1,23 @@
-//! The kernel: its tables, and one step of it for each event.
+//! The kernel: all tables, which fit together, and one step of it for each event.
 //!
-//! So far it has the file tree, the one process, which runs in slot 0 (pid 1), its descriptors, and terminal line 7, with raw
-//! termios (termios(4)). The calls on files and paths are those of the crate below; what is done at the line stands here.
+//! Each call goes to the method of its name, and that to the call's function over the tables that it touches (open_calls, io_calls,
+//! node_calls, proc_calls, tty_calls). Here stands what all calls have in common: what comes before their rows, calls that wait, what ends
+//! after an event, and who can go on then.
 #![tactic(auto)]
 
 mod boot;
+mod calls;
+mod endings;
+mod events;
+mod files;
 mod kernel;
-mod line;
-mod tty;
+mod lines;
+mod nodes;
+mod pending;
+mod procs;
+mod step;
+mod ttys;
+mod wakeups;
 
-pub use file_calls::NoMemory;
 pub use kernel::Kernel;
+pub use vnode_tree::NoMemory;

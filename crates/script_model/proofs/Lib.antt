@@ -1,5 +1,6 @@
 pub mod SeenRuns
 pub mod TrailLemmas
+mod Computing
 mod WorkedAnswers
 mod WorkedLabels
 mod WorkedLines

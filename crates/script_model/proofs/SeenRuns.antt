@@ -4,16 +4,14 @@ use Rattle.std.proofs.Common.{lt-ltb, le-ltb}
 use Rattle.sys_types.specs.declared.limits.TheConstants.{TRAIL_EVENTS}
 use Rattle.call_words.specs.declared.event.Event.{Event}
 use Rattle.user_db.specs.declared.boot.Boot.{Boot}
-use Rattle.machine_model.specs.State.{State, boot}
-use Rattle.machine_model.specs.View.{View, view}
-use Rattle.machine_model.specs.Step.{step, view_after, answer_to, wakes}
-use Rattle.machine_model.specs.Stands.{Within}
+use Rattle.system_model.specs.State.{State, View, view, boot}
+use Rattle.system_model.specs.Step.{step, view_after, answer_to, wakes}
+use Rattle.system_laws.specs.Stands.{Within}
 use Rattle.script_model.specs.Reading.{Asked}
 use Rattle.script_text.specs.Answers.{answer_line}
 use Rattle.script_model.specs.Script.{answers_from, stop_before, stops_from, stops, full_end, text_end, run_end, run_out}
 use Rattle.script_model.specs.Seen.{answers_seen, stops_seen, out_seen, joined}
-use Rattle.machine_model.proofs.Within.{Within-step, Within-boot}
-use Rattle.machine_model.proofs.SeenSteps.{view-step, answer-step}
+use Rattle.system_laws.proofs.Runs.{step_seen, step_within, boot_within}
 
 ltb-suc : (m n : ℕ) → ltb (suc m) (suc n) ≡ ltb m n
 ltb-suc m n = grind arith
@@ -23,22 +21,19 @@ unfolding answers_seen
 answers_seen-from [] s n h = refl
 answers_seen-from (e ∷ es) s n h =
     let after = (step s (n + 1) e).0 in
-    let line : answer_line e (step s (n + 1) e).1 (wakes (view after)) ≡ answer_line e (answer_to (view s) e) (wakes (view_after (view s) e)) =
-    ap (λ d. answer_line e d (wakes (view after))) (answer-step (n + 1) s e) ∙ ap (λ v. answer_line e (answer_to (view s) e) (wakes v)) (view-step n s e h) in
-    ap (λ l. l ++ answers_from after (n + 1 + 1) es) line
+    ap (λ v. answer_line e (answer_to (view s) e) (wakes v) ++ answers_from after (n + 1 + 1) es) (step_seen s n e h)
     ∙ ap (λ more. answer_line e (answer_to (view s) e) (wakes (view_after (view s) e)) ++ more)
-    (answers_seen-from es after (n + 1) (Within-step n s e h) ∙ ap (λ v. answers_seen v es) (view-step n s e h))
+    (answers_seen-from es after (n + 1) (step_within s n e h) ∙ ap (λ v. answers_seen v es) (step_seen s n e h))
 
 stops_seen-from : (es : List Event) (s : State) (n : ℕ) → Within n s → stops_from s (n + 1) es ≡ stops_seen (view s) es
 unfolding stops_seen
 stops_seen-from [] s n h = refl
 stops_seen-from (e ∷ es) s n h =
     let after = (step s (n + 1) e).0 in
-    let line : answer_line e (step s (n + 1) e).1 (wakes (view after)) ≡ answer_line e (answer_to (view s) e) (wakes (view_after (view s) e)) =
-    ap (λ d. answer_line e d (wakes (view after))) (answer-step (n + 1) s e) ∙ ap (λ v. answer_line e (answer_to (view s) e) (wakes v)) (view-step n s e h) in
-    ap (λ l. stop_before (view s) e ++ map (λ front. l ++ front) (stops_from after (n + 1 + 1) es)) line
+    ap (λ v. stop_before (view s) e ++ map (λ front. answer_line e (answer_to (view s) e) (wakes v) ++ front) (stops_from after (n + 1 + 1) es))
+    (step_seen s n e h)
     ∙ ap (λ more. stop_before (view s) e ++ map (λ front. answer_line e (answer_to (view s) e) (wakes (view_after (view s) e)) ++ front) more)
-    (stops_seen-from es after (n + 1) (Within-step n s e h) ∙ ap (λ v. stops_seen v es) (view-step n s e h))
+    (stops_seen-from es after (n + 1) (step_within s n e h) ∙ ap (λ v. stops_seen v es) (step_seen s n e h))
 
 -- from boot all of a run is still to come
 pub run_out-seen : (says : Boot) (asked : Asked) → run_out says asked ≡ out_seen (view (boot says)) TRAIL_EVENTS asked
@@ -46,14 +41,14 @@ unfolding out_seen
 run_out-seen says asked =
     let es = take TRAIL_EVENTS asked.events in
     ap (λ bs. record { bytes = bs ++ (run_end TRAIL_EVENTS asked).bytes; status = (run_end TRAIL_EVENTS asked).status; stops = stops says es })
-    (answers_seen-from es (boot says) 0 (Within-boot says))
+    (answers_seen-from es (boot says) 0 (boot_within says))
     ∙ ap
     (λ fronts. record {
       bytes = answers_seen (view (boot says)) es ++ (run_end TRAIL_EVENTS asked).bytes;
       status = (run_end TRAIL_EVENTS asked).status;
       stops = fronts;
     })
-    (stops_seen-from es (boot says) 0 (Within-boot says))
+    (stops_seen-from es (boot says) 0 (boot_within says))
 
 -- with no event left to come the end is written
 pub out_seen-end : (v : View) (room : ℕ) (bad : Option ℕ) → out_seen v room (record { events = []; bad = bad }) ≡ text_end bad

@@ -1,22 +1,20 @@
 -- A trail is read again as the events that it was printed of.
-use Rattle.std.proofs.Common.{◌≡◌, ℕ, zero, suc, ◌+◌, ◌<◌, ◌≤◌, Bool, true, false, eqb, List, [], ◌∷◌, ◌++◌, length, map, take, take_all, All, slice_index_or, Option, Some, None, Ok, refl, sym, ap, ◌∙◌, append_assoc, append-nil, arith, le-ltb}
-use Rattle.std.specs.Prelude.{codes, IsTrue, count_by}
+use Rattle.std.proofs.Common.{◌≡◌, ℕ, zero, suc, ◌+◌, ◌<◌, ◌≤◌, false, List, [], ◌∷◌, ◌++◌, length, map, take_all, All, slice_index_or, None, Ok, refl, ap, ◌∙◌, append-nil, arith, le-ltb}
+use Rattle.std.specs.Prelude.{codes}
 use Rattle.std.specs.List.{AllByRecursion, slice_split}
 use Rattle.std.proofs.lemmas.Bool.{ne_eqb}
 use Rattle.std.proofs.lemmas.List.Splits.{slice_split_at, length-slice_split}
 use Rattle.sys_types.specs.declared.limits.TheConstants.{TRAIL_EVENTS}
 use Rattle.call_words.specs.declared.event.Event.{Event}
-use Rattle.machine_model.specs.Step.{is_built}
 use Rattle.user_db.specs.declared.boot.Boot.{Boot}
 use Rattle.user_db.specs.Boot.{boot_of}
 use Rattle.user_db.specs.Lines.{is_newline, without_empty_last, lines}
-use Rattle.script_text.specs.Reading.{events_of_line}
 use Rattle.script_text.specs.Grammar.{Field, Fits, word_of, fields}
 use Rattle.script_text.specs.Printing.{behind_blanks, line_text, event_line}
 use Rattle.script_text.proofs.OneWord.{IsSolid, word_is_solid}
 use Rattle.script_text.proofs.LinesBack.{event_back}
-use Rattle.script_model.specs.Reading.{built_events, after_line, reads_from, reads}
-use Rattle.script_model.specs.Script.{answers, text_end, run_end, run_out, after_boot, script_out, written}
+use Rattle.script_model.specs.Reading.{reads_from, reads}
+use Rattle.script_model.specs.Script.{answers, text_end, run_out, script_out, written}
 use Rattle.script_model.specs.Trail.{trail, IsPrintable}
 
 -- each byte is a blank or above
@@ -63,17 +61,9 @@ lines_of_trail (e ∷ es) h =
     ∙ line_stays (event_line e) rest some
     ∙ ap (λ (ls : List (List ℕ)). event_line e ∷ ls) (lines_of_trail es h.1)
 
--- the line of an event that may be asked asks it alone
-line_is_built : (e : Event) → IsPrintable e → built_events (event_line e) ≡ Some (e ∷ [])
-unfolding built_events
-line_is_built e h =
-    let back = event_back e h.may.0 h.fit h.short in
-    let built : is_built e ≡ true = h.may.1 in
-    rw (back, built) refl
-
 trail_is_read : (es : List Event) (n : ℕ) → AllByRecursion IsPrintable es → reads_from n (map event_line es) ≡ record { events = es; bad = None }
 trail_is_read [] n h = refl
-trail_is_read (e ∷ es) n h = rw (line_is_built e h.0, trail_is_read es (n + 1) h.1) refl
+trail_is_read (e ∷ es) n h = rw (event_back e h.0.may h.0.fit h.0.short, trail_is_read es (n + 1) h.1) refl
 
 pub trail_back : (es : List Event) → AllByRecursion IsPrintable es → reads (trail es) ≡ record { events = es; bad = None }
 trail_back es h = ap (reads_from 1) (lines_of_trail es h) ∙ trail_is_read es 1 h

@@ -1,8 +1,6 @@
 -- The definitions give the answer lines, worked out by hand: each kind of answer, each asker, and each with and without slots that go on.
 use Rattle.std.proofs.Common.{◌≡◌, ℕ, [], ◌∷◌, ◌++◌, List, refl}
 use Rattle.std.specs.Prelude.{true, map, codes}
-use Rattle.std.specs.Fmt.{digits}
-use Rattle.hex.proofs.OnLiterals.{hex_on_literals}
 use Rattle.sys_types.specs.declared.sig.Sig.TheVariants as sig
 use Rattle.sys_types.specs.declared.rules.Rule.TheVariants as rule
 use Rattle.sys_types.specs.declared.image.Image.TheVariants as image
@@ -15,9 +13,8 @@ use Rattle.call_words.specs.declared.event.Decision.{Decision}
 use Rattle.call_words.specs.declared.event.Decision.TheVariants.{Answer, Sleep, Taken, Noted}
 use Rattle.call_words.specs.declared.event.Reply.TheVariants.{Num, Pair, Child, Image, Bytes, Text, Denied, Gone}
 use Rattle.call_words.specs.Events.{WakeList}
-use Rattle.script_text.specs.Words.{hex_word}
-use Rattle.script_text.specs.Paths.{text_word}
-use Rattle.script_text.specs.Answers.{wake_text, answer_line}
+use Rattle.script_text.specs.Answers.{answer_line}
+use Rattle.script_model.proofs.Computing.{rows_compute}
 
 -- decisions, and what is printed of each between the asker and the slots
 abbrev decisions : List (Decision × List ℕ)
@@ -65,12 +62,12 @@ abbrev ask : Event
 ask = event.Call 31 (call.Close 0)
 
 decisions_are_printed : map (λ row. answer_line ask row.0 nobody) decisions ≡ map (λ row. codes "31" ++ row.1 ++ codes "\n") decisions
-unfolding digits hex_on_literals hex_word text_word wake_text answer_line
+unfolding rows_compute
 decisions_are_printed = refl
 
 decisions_and_slots_are_printed : map (λ row. answer_line ask row.0 three_slots) decisions
     ≡ map (λ row. codes "31" ++ row.1 ++ codes " wake 0 7 31\n") decisions
-unfolding digits hex_on_literals hex_word text_word wake_text answer_line
+unfolding rows_compute
 decisions_and_slots_are_printed = refl
 
 -- events, and how the line of each begins
@@ -85,5 +82,5 @@ askers =
     []
 
 askers_are_printed : map (λ row. answer_line row.0 Noted one_slot) askers ≡ map (λ row. row.1 ++ codes " noted wake 7\n") askers
-unfolding digits wake_text answer_line
+unfolding rows_compute
 askers_are_printed = refl

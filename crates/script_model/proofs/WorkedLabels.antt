@@ -2,18 +2,16 @@
 -- dominates which, and what a subject may give and become.
 use Rattle.std.proofs.Common.{◌≡◌, ℕ, [], ◌∷◌, List, length, refl}
 use Rattle.std.specs.Prelude.{Bool, true, false, Result, Ok, Err, map, codes}
-use Rattle.std.specs.Fmt.{digits}
 use Rattle.std.specs.List.{range_with_len}
 use Rattle.label_core.specs.declared.element.Element.{Element}
 use Rattle.label_core.specs.declared.element.Element.TheVariants.{Low, Equal, High, Grade}
 use Rattle.label_core.specs.declared.fault.LabelFault.{LabelFault}
 use Rattle.label_core.specs.declared.fault.LabelKind.TheVariants as kind
 use Rattle.label_core.specs.Element.{dom}
-use Rattle.label_core.specs.CompSet.{numbers_in}
-use Rattle.label_core.specs.Reading.{after_word, number_at, compartments_within, compartments_at, grade_at, body_at, element_at, range_at, whole_element}
-use Rattle.label_core.specs.Reading.{whole_parts, whole_subject, element_of, subject_of}
+use Rattle.label_core.specs.Reading.{element_of, subject_of}
 use Rattle.label_core.specs.Subject.{Parts, may_relabel, may_become}
 use Rattle.label_core.specs.Text.{element_text, subject_text}
+use Rattle.script_model.proofs.Computing.{rows_compute}
 
 -- what is printed of what was read, or the fault
 abbrev printed : {A : Type 0} → (A → List ℕ) → Result A LabelFault → Result (List ℕ) LabelFault
@@ -69,8 +67,7 @@ elements =
     []
 
 elements_are_read : map (λ row. printed element_text (element_of row.0)) elements ≡ map (λ row. row.1) elements
-unfolding digits dom after_word number_at compartments_within compartments_at grade_at body_at element_at range_at whole_element whole_parts whole_subject
-    element_of subject_of numbers_in element_text subject_text
+unfolding rows_compute
 elements_are_read = refl
 
 -- texts of subjects, and what is printed of each or its fault
@@ -111,8 +108,7 @@ subjects =
     []
 
 subjects_are_read : map (λ row. printed subject_text (subject_of row.0)) subjects ≡ map (λ row. row.1) subjects
-unfolding digits dom after_word number_at compartments_within compartments_at grade_at body_at element_at range_at whole_element whole_parts whole_subject
-    element_of subject_of numbers_in element_text subject_text
+unfolding rows_compute
 subjects_are_read = refl
 
 -- two elements, and whether the first dominates the second
@@ -157,7 +153,7 @@ pairs =
     []
 
 pairs_are_dominated : map (λ row. dom row.0 row.1) pairs ≡ map (λ row. row.2) pairs
-unfolding dom
+unfolding rows_compute
 pairs_are_dominated = refl
 
 -- a subject, the element of an object, the element that it would be given, and whether the subject may
@@ -174,7 +170,7 @@ relabels =
     []
 
 relabels_are_allowed : map (λ row. may_relabel row.0 row.1 row.2) relabels ≡ map (λ row. row.3) relabels
-unfolding dom
+unfolding rows_compute
 relabels_are_allowed = refl
 
 -- a subject, another, and whether the one may become the other
@@ -206,7 +202,7 @@ becomes = (
     []
 
 becomes_are_allowed : map (λ row. may_become row.0 row.1) becomes ≡ map (λ row. row.2) becomes
-unfolding dom
+unfolding rows_compute
 becomes_are_allowed = refl
 
 -- an element with all compartments
@@ -214,9 +210,9 @@ abbrev full : ℕ → Element
 full grade = Grade grade (range_with_len 1 256)
 
 longest_element : length (element_text (full 65535)) ≡ 925
-unfolding digits element_text
+unfolding rows_compute
 longest_element = refl
 
 longest_subject : length (subject_text (record { active = full 65534; low = full 65533; high = full 65535 })) ≡ 2770
-unfolding digits dom element_text subject_text
+unfolding rows_compute
 longest_subject = refl

@@ -1,19 +1,11 @@
 -- The definitions give the events of single lines, worked out by hand: every kind of call once, and each way for a line to be bad.
 use Rattle.std.proofs.Common.{◌≡◌, ℕ, zero, suc, [], ◌∷◌, ◌++◌, List, length, refl}
 use Rattle.std.specs.Prelude.{Option, Some, None, option_map, Bool, true, false, map, codes}
-use Rattle.std.specs.Fmt.{digits}
-use Rattle.hex.proofs.OnLiterals.{hex_on_literals}
 use Rattle.label_core.specs.declared.element.Element.TheVariants.{Low, Equal, Grade}
-use Rattle.label_core.specs.Element.{dom}
-use Rattle.label_core.specs.CompSet.{numbers_in}
-use Rattle.label_core.specs.Reading.{after_word, number_at, compartments_within, compartments_at, grade_at, body_at, element_at, range_at, whole_element}
-use Rattle.label_core.specs.Reading.{whole_parts, whole_subject, element_of, subject_of}
 use Rattle.acl_core.specs.declared.entry.Entry.{Entry}
 use Rattle.acl_core.specs.declared.entry.Tag.{Tag}
 use Rattle.acl_core.specs.declared.entry.Tag.TheVariants.{User, Other}
 use Rattle.acl_core.specs.Perm.{perm_of}
-use Rattle.acl_core.specs.Reading.{read_of, list_at, entries_at, entry_at, tag_at, qualifier_at, numbered_at, number_at as list_number_at, digits_at, perm_at}
-use Rattle.acl_core.specs.Reading.{more_at}
 use Rattle.call_words.specs.declared.open.Access.TheVariants as access
 use Rattle.call_words.specs.declared.call.Call.TheVariants as call
 use Rattle.call_words.specs.declared.open.OpenFlags.{OpenFlags}
@@ -24,24 +16,12 @@ use Rattle.call_words.specs.declared.tty.When.TheVariants as when
 use Rattle.call_words.specs.declared.tty.WhichQueue.TheVariants as queue
 use Rattle.sys_types.specs.declared.sig.Sig.TheVariants as sig
 use Rattle.termios_core.specs.Termios.{cooked, raw}
-use Rattle.termios_core.specs.Reading.{termios_of}
 use Rattle.call_words.specs.declared.event.Event.{Event}
 use Rattle.call_words.specs.declared.event.Event.TheVariants as event
 use Rattle.call_words.specs.declared.attr.WhichList.TheVariants as which
-use Rattle.script_text.specs.Words.{parts_of, number_below, bytes_of_word}
-use Rattle.script_text.specs.Paths.{path_bytes_of, path_of}
-use Rattle.script_text.specs.Values.{flags_of, no_flags}
-use Rattle.script_text.specs.Rights.{groups_of}
-use Rattle.script_text.specs.Open.{open_call_of}
-use Rattle.script_text.specs.Io.{io_call_of}
-use Rattle.script_text.specs.Dir.{dir_call_of}
-use Rattle.script_text.specs.Attr.{attr_call_of}
-use Rattle.script_text.specs.Cred.{cred_call_of}
-use Rattle.script_text.specs.Pipe.{pipe_call_of}
-use Rattle.script_text.specs.Proc.{proc_call_of}
-use Rattle.script_text.specs.Signal.{signal_of, signal_call_of}
-use Rattle.script_text.specs.Tty.{tty_call_of}
+use Rattle.script_text.specs.Values.{no_flags}
 use Rattle.script_text.specs.Reading.{events_of_line}
+use Rattle.script_model.proofs.Computing.{rows_compute}
 
 -- an entry with the permission of an octal digit
 abbrev entry : Tag → ℕ → Entry
@@ -109,10 +89,7 @@ event_lines =
     []
 
 lines_are_events : map (λ row. events_of_line row.0) event_lines ≡ map (λ row. Some row.1) event_lines
-unfolding hex_on_literals read_of list_at entries_at entry_at tag_at qualifier_at numbered_at list_number_at digits_at perm_at more_at dom after_word number_at
-    compartments_within compartments_at grade_at body_at element_at range_at whole_element whole_parts whole_subject element_of subject_of numbers_in parts_of
-    number_below bytes_of_word path_bytes_of path_of flags_of groups_of open_call_of io_call_of dir_call_of attr_call_of cred_call_of
-    pipe_call_of proc_call_of signal_call_of tty_call_of events_of_line
+unfolding rows_compute
 lines_are_events = refl
 
 -- lines that are bad
@@ -220,10 +197,7 @@ bad_lines =
     []
 
 bad_lines_ask_nothing : map events_of_line bad_lines ≡ map (λ _. None) bad_lines
-unfolding hex_on_literals read_of list_at entries_at entry_at tag_at qualifier_at numbered_at list_number_at digits_at perm_at more_at dom after_word number_at
-    compartments_within compartments_at grade_at body_at element_at range_at whole_element whole_parts whole_subject element_of subject_of numbers_in parts_of
-    number_below bytes_of_word path_bytes_of path_of flags_of groups_of open_call_of io_call_of dir_call_of attr_call_of cred_call_of
-    pipe_call_of proc_call_of signal_call_of tty_call_of events_of_line
+unfolding rows_compute
 bad_lines_ask_nothing = refl
 
 -- the flags of a wait
@@ -279,8 +253,7 @@ more_event_lines =
     []
 
 more_lines_are_events : map (λ row. events_of_line row.0) more_event_lines ≡ map (λ row. Some row.1) more_event_lines
-unfolding digits hex_on_literals parts_of number_below bytes_of_word path_bytes_of path_of signal_of termios_of open_call_of io_call_of dir_call_of
-    attr_call_of cred_call_of pipe_call_of proc_call_of signal_call_of tty_call_of events_of_line
+unfolding rows_compute
 more_lines_are_events = refl
 
 -- such lines that are bad
@@ -355,8 +328,7 @@ more_bad_lines =
     []
 
 more_bad_lines_ask_nothing : map events_of_line more_bad_lines ≡ map (λ _. None) more_bad_lines
-unfolding digits hex_on_literals parts_of number_below bytes_of_word path_bytes_of path_of signal_of termios_of open_call_of io_call_of dir_call_of
-    attr_call_of cred_call_of pipe_call_of proc_call_of signal_call_of tty_call_of events_of_line
+unfolding rows_compute
 more_bad_lines_ask_nothing = refl
 
 -- bytes so many times
@@ -391,11 +363,7 @@ longest_lines =
     []
 
 longest_words : map (λ row. option_map length (events_of_line row.0)) longest_lines ≡ map (λ row. row.1) longest_lines
-unfolding digits hex_on_literals read_of list_at entries_at entry_at tag_at qualifier_at numbered_at list_number_at digits_at perm_at more_at dom after_word
-    number_at compartments_within compartments_at grade_at body_at element_at range_at whole_element whole_parts whole_subject element_of subject_of
-    numbers_in parts_of
-    number_below bytes_of_word path_bytes_of path_of termios_of flags_of groups_of open_call_of io_call_of dir_call_of attr_call_of cred_call_of
-    pipe_call_of proc_call_of signal_call_of tty_call_of events_of_line
+unfolding rows_compute
 longest_words = refl
 
 -- each word is good, but the second line has 4,097 bytes
@@ -406,8 +374,7 @@ longest_settings =
     []
 
 longest_settings_are_read : map (λ row. option_map length (events_of_line row.0)) longest_settings ≡ map (λ row. row.1) longest_settings
-unfolding digits parts_of number_below termios_of open_call_of io_call_of dir_call_of attr_call_of cred_call_of pipe_call_of proc_call_of signal_call_of
-    tty_call_of events_of_line
+unfolding rows_compute
 longest_settings_are_read = refl
 
 abbrev longest_labels : List (List ℕ × Option ℕ)
@@ -417,6 +384,5 @@ longest_labels =
     []
 
 longest_labels_are_read : map (λ row. option_map length (events_of_line row.0)) longest_labels ≡ map (λ row. row.1) longest_labels
-unfolding after_word number_at compartments_within compartments_at grade_at body_at element_at whole_element element_of numbers_in parts_of number_below
-    path_bytes_of path_of open_call_of io_call_of dir_call_of attr_call_of events_of_line
+unfolding rows_compute
 longest_labels_are_read = refl

@@ -4,7 +4,6 @@ use Rattle.std.proofs.Common.{◌≡◌, ℕ, ◌+◌, ◌*◌, [], ◌∷◌, L
 use Rattle.std.specs.Prelude.{Bool, true, false, Option, Some, None, Err, map, replicate}
 use Rattle.label_core.specs.declared.element.Element.{Element}
 use Rattle.label_core.specs.declared.element.Element.TheVariants.{Low, Grade}
-use Rattle.label_core.specs.Element.{dom}
 use Rattle.label_core.specs.Subject.{Parts}
 use Rattle.acl_core.specs.declared.cred.Cred.{Cred}
 use Rattle.acl_core.specs.declared.entry.Entry.{Entry}
@@ -19,6 +18,7 @@ use Rattle.access_rule.specs.declared.Attrs.{Attrs}
 use Rattle.access_rule.specs.Access.{refusal}
 use Rattle.sys_types.specs.declared.rules.Rule.{Rule}
 use Rattle.sys_types.specs.declared.rules.Rule.TheVariants as rule
+use Rattle.script_model.proofs.Computing.{rows_compute}
 
 -- an entry with the permission of an octal digit
 abbrev entry : Tag → ℕ → Entry
@@ -69,7 +69,7 @@ of_masked =
     []
 
 masked_grants : map (λ row. is_granted masked row.0 row.1) of_masked ≡ map (λ row. row.2) of_masked
-unfolding grants
+unfolding rows_compute
 masked_grants = refl
 
 -- callers, an octal digit, and whether the list grants it
@@ -89,7 +89,7 @@ of_grouped =
     []
 
 grouped_grants : map (λ row. is_granted grouped row.0 row.1) of_grouped ≡ map (λ row. row.2) of_grouped
-unfolding grants
+unfolding rows_compute
 grouped_grants = refl
 
 -- Lists and the nine bits of a mode. Where a list has a mask, the bits of the group are the mask's.
@@ -101,41 +101,41 @@ abbrev mask_executes : List Entry
 mask_executes = entry UserObj 6 ∷ entry GroupObj 4 ∷ entry Mask 1 ∷ entry Other 0 ∷ []
 
 list_of_a_mode : minimal_list (mode 6 4 0) ≡ digits_of 6 4 0
-unfolding minimal_list
+unfolding rows_compute
 list_of_a_mode = refl
 
 modes_of_lists : map mode_of (digits_of 6 4 0 ∷ with_user 6 7 5 2 ∷ []) ≡ mode 6 4 0 ∷ mode 6 5 2 ∷ []
-unfolding mode_of
+unfolding rows_compute
 modes_of_lists = refl
 
 lists_that_execute : map has_exec (digits_of 6 4 0 ∷ with_user 6 7 5 2 ∷ mask_executes ∷ []) ≡ false ∷ true ∷ true ∷ []
-unfolding has_exec
+unfolding rows_compute
 lists_that_execute = refl
 
 mode_is_put : with_mode (digits_of 6 4 0) (mode 7 0 1) ≡ digits_of 7 0 1
-unfolding with_mode
+unfolding rows_compute
 mode_is_put = refl
 
 mode_is_put_into_the_mask : with_mode (with_user 6 7 5 2) (mode 4 2 1) ≡ with_user 4 7 2 1
-unfolding with_mode
+unfolding rows_compute
 mode_is_put_into_the_mask = refl
 
 list_is_handed_down : inherited_list (digits_of 6 4 0) (mode 4 2 6) ≡ digits_of 4 0 0
-unfolding inherited_list
+unfolding rows_compute
 list_is_handed_down = refl
 
 list_with_a_mask_is_handed_down : inherited_list (with_user 6 7 5 2) (mode 4 6 6) ≡ with_user 4 7 4 2
-unfolding inherited_list
+unfolding rows_compute
 list_with_a_mask_is_handed_down = refl
 
 -- A list has at most 64 entries.
 
 entries_65_are_too_many : acl_of (replicate 65 (entry UserObj 0)) ≡ Err TooMany
-unfolding acl_of
+unfolding rows_compute
 entries_65_are_too_many = refl
 
 entries_64_are_looked_at : acl_of (replicate 64 (entry UserObj 0)) ≡ Err Twice
-unfolding acl_of
+unfolding rows_compute
 entries_64_are_looked_at = refl
 
 -- Which rule denies the access to a node of user 7 and group 7.
@@ -197,5 +197,5 @@ abbrev denied : Cred → Parts → Attrs → ℕ → Option Rule
 denied cred label node digit = refusal cred label node (perm_of digit).read (perm_of digit).write (perm_of digit).exec
 
 each_access_is_denied_by_its_first_rule : map (λ row. denied row.0 row.1 row.2 row.3) wanted ≡ map (λ row. row.4) wanted
-unfolding dom grants has_exec
+unfolding rows_compute
 each_access_is_denied_by_its_first_rule = refl

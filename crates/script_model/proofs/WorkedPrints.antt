@@ -1,19 +1,12 @@
 -- The definitions give the lines that events are printed as, worked out by hand: no word is left out, and each has its one form.
 use Rattle.std.proofs.Common.{◌≡◌, ℕ, [], ◌∷◌, List, refl}
 use Rattle.std.specs.Prelude.{true, false, map, codes}
-use Rattle.std.specs.Fmt.{digits}
-use Rattle.hex.proofs.OnLiterals.{hex_on_literals}
-use Rattle.rand_pcg.specs.Lcg.{Lcg}
 use Rattle.label_core.specs.declared.element.Element.TheVariants.{Low, Equal, Grade}
-use Rattle.label_core.specs.Text.{element_text, subject_text}
 use Rattle.acl_core.specs.declared.entry.Entry.{Entry}
 use Rattle.acl_core.specs.declared.entry.Tag.{Tag}
 use Rattle.acl_core.specs.declared.entry.Tag.TheVariants.{User, Other}
 use Rattle.acl_core.specs.Perm.{perm_of}
-use Rattle.acl_core.specs.Text.{list_text}
 use Rattle.termios_core.specs.Termios.{raw}
-use Rattle.termios_core.specs.Flags.{on_flags}
-use Rattle.termios_core.specs.Text.{termios_text}
 use Rattle.sys_types.specs.declared.sig.Sig.TheVariants as sig
 use Rattle.call_words.specs.declared.open.Access.TheVariants as access
 use Rattle.call_words.specs.declared.attr.WhichList.TheVariants as which
@@ -24,12 +17,10 @@ use Rattle.call_words.specs.declared.tty.When.TheVariants as when
 use Rattle.call_words.specs.declared.tty.WhichQueue.TheVariants as queue
 use Rattle.call_words.specs.declared.event.Event.{Event}
 use Rattle.call_words.specs.declared.event.Event.TheVariants as event
-use Rattle.call_words.specs.Groups.{groups_word}
 use Rattle.event_load.specs.Load.{drawn_event, load_events}
-use Rattle.script_text.specs.Words.{hex_word}
-use Rattle.script_text.specs.Paths.{path_word}
-use Rattle.script_text.specs.Values.{flags_word, no_flags}
+use Rattle.script_text.specs.Values.{no_flags}
 use Rattle.script_text.specs.Printing.{event_line}
+use Rattle.script_model.proofs.Computing.{rows_compute}
 
 -- an entry with the permission of an octal digit
 abbrev entry : Tag → ℕ → Entry
@@ -79,7 +70,7 @@ event_lines =
     []
 
 events_are_printed : map (λ row. event_line row.0) event_lines ≡ map (λ row. row.1) event_lines
-unfolding digits hex_on_literals hex_word path_word flags_word groups_word element_text subject_text list_text on_flags termios_text
+unfolding rows_compute
 events_are_printed = refl
 
 -- words, and the line of the event that each draws, worked out elsewhere
@@ -98,11 +89,11 @@ word_lines =
     []
 
 words_draw_events : map (λ row. event_line (drawn_event row.0)) word_lines ≡ map (λ row. row.1) word_lines
-unfolding digits hex_on_literals hex_word path_word flags_word
+unfolding rows_compute
 words_draw_events = refl
 
 -- these are the first words from the state 7, so the load from it begins with these lines
 load_from_seven : map event_line (load_events 10 7)
     ≡ codes "0 open /dev/tty7 rw - 666" ∷ codes "0 fork -" ∷ codes "0 fork -" ∷ codes "0 fork -" ∷ map (λ row. row.1) word_lines
-unfolding digits hex_on_literals hex_word path_word flags_word
+unfolding rows_compute
 load_from_seven = refl

@@ -4,19 +4,19 @@ use Rattle.std.specs.Prelude.{codes}
 use Rattle.std.specs.Fmt.{decimal}
 use Rattle.sys_types.specs.declared.limits.TheConstants.{TRAIL_EVENTS}
 use Rattle.call_words.specs.declared.event.Event.{Event}
-use Rattle.machine_model.specs.State.{State, boot}
-use Rattle.machine_model.specs.View.{View, view}
-use Rattle.machine_model.specs.Rows.{first}
-use Rattle.machine_model.specs.Step.{row, step, wakes, may_want_memory}
+use Rattle.system_model.specs.State.{State, View, view, boot}
+use Rattle.system_model.specs.Rows.{first}
+use Rattle.system_model.specs.Step.{row, step, wakes}
+use Rattle.system_model.specs.Memory.{may_want_memory}
 use Rattle.script_model.specs.Reading.{Asked, reads}
 use Rattle.script_text.specs.Answers.{answer_line}
 use Rattle.user_db.specs.declared.boot.Boot.{Boot}
 use Rattle.user_db.specs.Boot.{boot_of}
 
--- Memory may run out right before an event that may want it and of which no line of the row holds: a write to a regular file that
--- nothing denies.
+-- Memory may run out right before an event that may want it and of which no check of the row holds: a write to a regular file that
+-- nothing denies or puts to sleep.
 abbrev pub finds_no_memory : View → Event → Bool
-finds_no_memory v e = may_want_memory v e && is_none (first (row v e).lines)
+finds_no_memory v e = may_want_memory v e && is_none (first (row v e).checks)
 
 abbrev pub stop_before : View → Event → List (List ℕ)
 stop_before v e = if finds_no_memory v e then [] ∷ [] else []

@@ -1,8 +1,8 @@
 -- A run by what calls see alone, from any moment on.
 use Rattle.std.specs.Prelude.{ℕ, List, [], ◌∷◌, ◌++◌, map, take}
 use Rattle.call_words.specs.declared.event.Event.{Event}
-use Rattle.machine_model.specs.View.{View}
-use Rattle.machine_model.specs.Step.{view_after, answer_to, wakes}
+use Rattle.system_model.specs.State.{View}
+use Rattle.system_model.specs.Step.{view_after, answer_to, wakes}
 use Rattle.script_model.specs.Reading.{Asked}
 use Rattle.script_text.specs.Answers.{answer_line}
 use Rattle.script_model.specs.Script.{Output, stop_before, run_end}

@@ -27,3 +27,4 @@ pub mod Tables
 pub mod Fit
 pub mod Closing
 pub mod Verdicts
+pub mod Memory

@@ -1,4 +1,3 @@
-pub mod Asked
 pub mod Told
 pub mod OneEvent
 pub mod LinesCome

@@ -5,12 +5,12 @@ use Rattle.std.specs.List.{slice_split, onto_first}
 use Rattle.std.proofs.lemmas.List.Splits.{slice_split-cons_no}
 use Rattle.std.proofs.lemmas.Bool.{and_parts, lt-leb}
 use Rattle.call_words.specs.declared.event.Event.{Event}
-use Rattle.machine_model.specs.View.{View}
+use Rattle.system_model.specs.State.{View}
 use Rattle.script_model.specs.Seen.{out_seen}
 use Rattle.script_model.specs.Script.{Output, text_end}
 use Rattle.script_model.proofs.SeenRuns.{out_seen-end}
 use Rattle.user_db.specs.Lines.{is_newline, without_empty_last, lines}
-use Rattle.script_model.specs.Reading.{built_events, reads_from}
+use Rattle.script_model.specs.Reading.{reads_from}
 use Rattle.script_text.specs.Reading.{events_of_line}
 use Rattle.tty_host.specs.declared.run.Stop.{Stop}
 use Rattle.tty_host.specs.Told.{Goes, ended}
@@ -91,16 +91,16 @@ lines-long line text one long =
     ] refl
 
 -- a good line gives its events first
-pub good-line : (v : View) (room n : ℕ) (l : List ℕ) (ls : List (List ℕ)) (es : List Event) → Some es ≡ built_events l
+pub good-line : (v : View) (room n : ℕ) (l : List ℕ) (ls : List (List ℕ)) (es : List Event) → Some es ≡ events_of_line l
     → out_seen v room (reads_from n (l ∷ ls)) ≡ out_seen v room (asked (es ++ (reads_from (n + 1) ls).events) (reads_from (n + 1) ls).bad)
 good-line v room n l ls es h = rw (← h) refl
 
 -- a bad line ends all
-pub bad-line : (v : View) (room n : ℕ) (l : List ℕ) (ls : List (List ℕ)) → None ≡ built_events l → out_seen v room (reads_from n (l ∷ ls)) ≡ text_end (Some n)
+pub bad-line : (v : View) (room n : ℕ) (l : List ℕ) (ls : List (List ℕ)) → None ≡ events_of_line l → out_seen v room (reads_from n (l ∷ ls)) ≡ text_end (Some n)
 bad-line v room n l ls h = rw (← h) (out_seen-end v room (Some n))
 
-long-is-bad : (l : List ℕ) → 4096 < length l → None ≡ built_events l
-unfolding built_events events_of_line
+long-is-bad : (l : List ℕ) → 4096 < length l → None ≡ events_of_line l
+unfolding events_of_line
 long-is-bad l h = rw (lt-leb (length l) 4096 h) refl
 
 -- a line that is too long is bad, whatever follows

@@ -6,8 +6,8 @@ use Rattle.edge_io.specs.Outside.{Appended}
 use Rattle.call_words.specs.declared.event.Event.{Event}
 use Rattle.call_words.specs.declared.event.Decision.{Decision}
 use Rattle.call_words.specs.Events.{WakeList}
-use Rattle.machine_model.specs.View.{View}
-use Rattle.machine_model.specs.Step.{view_after, answer_to, wakes}
+use Rattle.system_model.specs.State.{View}
+use Rattle.system_model.specs.Step.{view_after, answer_to, wakes}
 use Rattle.script_model.specs.Reading.{Asked}
 use Rattle.script_text.specs.Answers.{answer_line}
 use Rattle.script_model.specs.Script.{Output, finds_no_memory, full_end}

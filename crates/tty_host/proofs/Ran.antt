@@ -1,14 +1,14 @@
 -- From a run of what calls see to the promise of the top call.
 use Rattle.std.proofs.Common.{◌≡◌, ℕ, ◌⊎◌, inl, inr, List, [], length, ◌≤◌, Some, None, Option, Ok, Err, Result, refl, sym, ap, arith, le-ltb}
 use Rattle.std.specs.Prelude.{IsOk, IsErr}
-use Rattle.machine_model.specs.State.{boot}
-use Rattle.machine_model.specs.View.{view}
+use Rattle.system_model.specs.State.{boot, view}
+use Rattle.system_model.specs.Tables.{view_of}
 use Rattle.script_model.specs.Reading.{reads}
 use Rattle.user_db.specs.declared.boot.Boot.{Boot}
 use Rattle.user_db.specs.Boot.{boot_of}
 use Rattle.script_model.specs.Script.{Output, text_end, run_out, boot_end, after_boot, script_out}
 use Rattle.script_model.proofs.SeenRuns.{run_out-seen}
-use Rattle.machine_model.proofs.Lawful.{obeys}
+use Rattle.system_laws.proofs.RunsObey.{obeys}
 use Rattle.tty_host.specs.declared.run.Run.{Run}
 use Rattle.tty_host.specs.declared.status.Status.{Status}
 use Rattle.tty_host.specs.declared.status.Status.TheVariants.{Done, Usage, Input, ReadFault, WriteFault, Memory, Full, NoWorker}
@@ -18,7 +18,7 @@ use Rattle.tty_host.specs.Ends.{IsScriptStatus, Writes}
 use Rattle.tty_host.specs.Tops.{IsValid, RanScript}
 
 -- a new run is to write all of the machine's output
-pub start-come : (says : Boot) (run : Run) (text : List ℕ) → run.kernel ≡ view (boot says) → run.room ≡ 262144 → run.number ≡ 1 → run.line.items ≡ []
+pub start-come : (says : Boot) (run : Run) (text : List ℕ) → view_of run.kernel ≡ view (boot says) → run.room ≡ 262144 → run.number ≡ 1 → run.line.items ≡ []
     → to_come run text ≡ run_out says (reads text)
 start-come says run text kernel room number line = rw (kernel, room, number, line) (sym (run_out-seen says (reads text)))
 

@@ -3,7 +3,7 @@ use Rattle.std.proofs.Common.{◌≡◌, ℕ, ◌+◌, List, [], ◌∷◌, ◌+
 use Rattle.std.specs.Prelude.{if◌then◌else◌, true}
 use Rattle.edge_io.specs.Outside.{Rose, Appended}
 use Rattle.call_words.specs.declared.event.Event.{Event}
-use Rattle.machine_model.specs.View.{View}
+use Rattle.system_model.specs.State.{View}
 use Rattle.script_model.specs.Script.{Output, finds_no_memory, stop_before}
 use Rattle.script_model.specs.Seen.{joined}
 use Rattle.tty_host.specs.declared.run.Stop.{Stop}

@@ -4,16 +4,17 @@ use Rattle.call_words.specs.declared.event.Event.{Event}
 use Rattle.user_db.specs.Lines.{lines}
 use Rattle.script_model.specs.Reading.{reads_from}
 use Rattle.script_model.specs.Script.{Output}
+use Rattle.system_model.specs.Tables.{view_of}
 use Rattle.script_model.specs.Seen.{out_seen}
 use Rattle.tty_host.specs.declared.run.Run.{Run}
 
 -- where these events are asked, and then a bad line comes or none
 abbrev pub come : Run → List Event → Option ℕ → Output
-come run events bad = out_seen run.kernel run.room (record { events = events; bad = bad })
+come run events bad = out_seen (view_of run.kernel) run.room (record { events = events; bad = bad })
 
 -- where these lines come, of which the first has the run's number
 abbrev pub lines_come : Run → List (List ℕ) → Output
-lines_come run ls = out_seen run.kernel run.room (reads_from run.number ls)
+lines_come run ls = out_seen (view_of run.kernel) run.room (reads_from run.number ls)
 
 -- where this text follows the bytes of the line so far
 abbrev pub to_come : Run → List ℕ → Output

@@ -7,7 +7,7 @@ use Rattle.script_model.specs.Reading.{reads}
 use Rattle.user_db.specs.declared.boot.Boot.{Boot}
 use Rattle.user_db.specs.Boot.{boot_of}
 use Rattle.script_model.specs.Script.{script_out}
-use Rattle.machine_model.specs.Laws.{ObeysLaws}
+use Rattle.system_laws.specs.RunLaws.{ObeysLaws}
 use Rattle.tty_host.specs.Uses.{SourceUse, SinkUse, SourceFailed, SinkFailed, Unread}
 use Rattle.tty_host.specs.Told.{Began}
 use Rattle.tty_host.specs.Ends.{IsScriptStatus, Writes}
@@ -38,8 +38,9 @@ pub record RanScript (status : Status) (boot src : SourceUse) (out : SinkUse) : 
   pub others : IsScriptStatus status
   -- the boot text is read before the script, which is not read where that has a bad line
   pub unread : (boot_text : List ℕ) → boot.left ≡ Some boot_text → IsErr (boot_of boot_text) → Unread src
-  -- In the run of the script each refusal names the first rule that denies; no byte of a line moves through a file that was opened
-  -- before the line's last revoke; and labels dominate at each open and, where the boot text says so, at each read and write.
+  -- In the run of the script each denial names the first rule that holds, and each sleep its reason; no byte moves through a file of a
+  -- line that was opened before the line's last revoke; labels allow each open, and each read and write that looks at them; and a slot
+  -- waits just where another try of its call would sleep and change nothing.
   pub lawful : (boot_text text : List ℕ) (says : Boot) → boot.left ≡ Some boot_text → src.left ≡ Some text → boot_of boot_text ≡ Ok says
       → ObeysLaws says (reads text).events
 

@@ -6,7 +6,6 @@
 #![tactic(auto)]
 
 mod boot;
-mod built;
 mod choice;
 mod print;
 mod run;

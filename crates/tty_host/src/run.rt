@@ -4,22 +4,23 @@ ghost use Rattle.arrayvec.specs.ArrayVec.{array_vec_len};
 ghost use Rattle.edge_io.specs.Outside.{Rose, Appended};
 ghost use Rattle.call_words.specs.declared.event.Event.{Event};
 ghost use Rattle.user_db.specs.Boot.{IsBoot};
-ghost use Rattle.machine_model.specs.State.{boot};
-ghost use Rattle.machine_model.specs.View.{view};
-ghost use Rattle.machine_model.specs.Step.{MayBeAsked};
+ghost use Rattle.call_words.specs.Events.{MayBeUsed};
+ghost use Rattle.system_model.specs.State.{boot, view};
+ghost use Rattle.system_model.specs.Tables.{view_of};
 ghost use Rattle.script_model.specs.Script.{Output, text_end};
+ghost use Rattle.sys_types.specs.declared.limits.TheConstants.{TRAIL_EVENTS};
+ghost use Rattle.kern_core.specs.Bounds.{IsAfter, is_after_prop};
 ghost use Rattle.tty_host.specs.Told.{Began};
 ghost use Rattle.tty_host.specs.Ends.{IsScriptStatus, stop_status};
 ghost use Rattle.tty_host.specs.OneLine.{is_one_line};
 
-use crate::built::read_built_line;
 use crate::print::bad_line;
 use crate::status::Status;
 use arrayvec::ArrayVec;
 use call_words::{Event, PIECE_BYTES, SCRIPT_LINE_BYTES, TRAIL_EVENTS, Wakes};
 use edge_io::{Failed, Sink, Source};
 use kern_core::{Kernel, NoMemory};
-use script_text::{AnswerLine, Events, print_answer};
+use script_text::{AnswerLine, Events, print_answer, read_event_line};
 use std::alloc::Global;
 use user_db::Boot;
 
@@ -54,6 +55,8 @@ pub struct Run {
     pub room: u32,
     pub number: u32,
     pub line: ArrayVec<u8, SCRIPT_LINE_BYTES>,
+    ghost most: { room ≤ TRAIL_EVENTS },
+    ghost after: { IsAfter (TRAIL_EVENTS - room) kernel } by { is_after_prop (TRAIL_EVENTS - room) kernel },
     ghost within: { number + room ≤ 262145 },
     ghost one_line: { IsTrue (is_one_line line.items) },
 }
@@ -82,7 +85,7 @@ impl Run {
     /// A run from a boot, with no byte of its text read. The boot is one that some boot text gives.
     pub fn new(alloc: Global, says: &Boot) -> Result<Self, NoMemory>
         requires { IsBoot says.now }
-        ensures kernel { IfOk result (λ run. run.kernel ≡ view (boot says.now)) }
+        ensures kernel { IfOk result (λ run. view_of run.kernel ≡ view (boot says.now)) }
         ensures room { IfOk result (λ run. run.room ≡ 262144) }
         ensures number { IfOk result (λ run. run.number ≡ 1) }
         ensures line { IfOk result (λ run. run.line.items ≡ []) }
@@ -98,7 +101,7 @@ impl Run {
 
     /// Runs one event and writes its answer.
     fn run_event<K: Sink>(&mut self, event: &Event, out: &mut K) -> Result<(), Stop>
-        requires { MayBeAsked event.now }
+        requires { MayBeUsed event.now }
         ensures goes { (es : List Event) (bad : Option ℕ) → Goes result
             (K.written out.old) (come self.old (event.now ∷ es) bad)
             (K.written out.new) (come self.new es bad) }
@@ -130,7 +133,7 @@ impl Run {
 
     /// Runs the events of a line.
     fn run_events<K: Sink>(&mut self, events: &Events, out: &mut K) -> Result<(), Stop>
-        requires { All MayBeAsked events.now }
+        requires { All MayBeUsed events.now }
         ensures goes { (es : List Event) (bad : Option ℕ) → Goes result
             (K.written out.old) (come self.old (events.now ++ es) bad)
             (K.written out.new) (come self.new es bad) }
@@ -168,7 +171,7 @@ impl Run {
         ensures failed { result ≡ Err Stop.Failed → Rose (K.faults out.old) (K.faults out.new) }
         ensures grows { K.faults out.old ≤ K.faults out.new }
     {
-        let Some(events) = read_built_line(self.line.as_slice()) else {
+        let Some(events) = read_event_line(self.line.as_slice()) else {
             return Err(self.stop_at_line(out));
         };
         self.run_events(&events, out)?;

@@ -79,7 +79,9 @@ in tty7 41 -> tty7 noted
 32 times 0 open /tmp/f rw c -> 0 ok ~#~
 0 write 0 6b657074 -> 0 ok 4
 # The rules before fd-room.
-0 open /dev/tty3 r -> 0 err EAGAIN not-ready
+0 open /dev/tty3 r -> 0 sleep carrier
+up tty3 -> tty3 noted wake 0
+0 again -> 0 err EMFILE fd-room
 0 open /dev/tty r -> 0 err ENXIO no-tty
 0 open /tmp/f w t -> 0 err EMFILE fd-room
 0 open /tmp/x w c -> 0 err EMFILE fd-room

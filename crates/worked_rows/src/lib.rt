@@ -17,7 +17,7 @@ mod opens;
 #[cfg(test)]
 mod paths;
 #[cfg(test)]
-mod revokes;
+mod processes;
 #[cfg(test)]
 mod rights;
 #[cfg(test)]
@@ -30,5 +30,7 @@ mod session;
 mod sessions;
 #[cfg(test)]
 mod standard;
+#[cfg(test)]
+mod terminals;
 #[cfg(test)]
 mod texts;

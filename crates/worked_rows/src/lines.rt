@@ -28,7 +28,7 @@ take tty7 3 -> tty7 out -
 
 == a full input drops what comes
 # 1,024 bytes are kept, and those that come then are not, until some are read.
-0 open /dev/tty7 rw -> 0 ok 0
+0 open /dev/tty7 rw n -> 0 ok 0
 in tty7 ~61*512~ -> tty7 noted~|tty7 noted*511~
 in tty7 ~62*512~ -> tty7 noted~|tty7 noted*511~
 in tty7 63 -> tty7 noted
@@ -42,7 +42,7 @@ in tty7 64 -> tty7 noted
 # The output holds 4,096 bytes. A write puts as many as fit, and none where none fits; the label, and that there are no bytes, come
 # before that.
 0 setproclabel mls/10(low-high) -> 0 ok 0
-0 open /dev/tty7 rw -> 0 ok 0
+0 open /dev/tty7 rw n -> 0 ok 0
 7 times 0 write 0 ~61*512~ -> 0 ok 512
 0 write 0 ~62*510~ -> 0 ok 510
 0 write 0 63646566 -> 0 ok 2
@@ -61,7 +61,10 @@ take tty7 512 -> tty7 out 67
 # MAX 0 comes before that nothing has come in, and after the label and a dead file.
 0 open /dev/tty7 rw -> 0 ok 0
 0 read 0 0 -> 0 bytes -
-0 read 0 1 -> 0 err EAGAIN not-ready
+0 read 0 1 -> 0 sleep read
+in tty7 61 -> tty7 noted wake 0
+0 read 0 0 -> 0 err EBUSY asleep wake 0
+0 again -> 0 bytes 61
 in tty7 61 -> tty7 noted
 0 read 0 0 -> 0 bytes -
 0 read 0 1 -> 0 bytes 61
@@ -84,7 +87,7 @@ take tty7 512 -> tty7 out -
 0 write 1 78 -> 0 err EIO dead
 0 write 2 78 -> 0 err EBADF fd-mode
 in tty7 78 -> tty7 noted
-0 open /dev/tty7 rw -> 0 ok 3
+0 open /dev/tty7 rw n -> 0 ok 3
 0 read 3 512 -> 0 err EAGAIN not-ready
 take tty7 512 -> tty7 out -
 0 write 3 6e6577 -> 0 ok 3
@@ -118,7 +121,7 @@ take tty7 512 -> tty7 out 62
 0 close 1 -> 0 ok 0
 take tty7 512 -> tty7 out -
 in tty7 65 -> tty7 noted
-0 open /dev/tty7 rw -> 0 ok 0
+0 open /dev/tty7 rw n -> 0 ok 0
 0 read 0 512 -> 0 err EAGAIN not-ready
 take tty7 512 -> tty7 out -
 ";

@@ -22,8 +22,12 @@ pub const SCENES: &str = "
 0 umask 22 -> 0 ok 0
 # Lines and the line of the caller, by the superuser, whom no list denies them.
 0 open /dev/tty r -> 0 err ENXIO no-tty
-0 open /dev/tty0 rw -> 0 err EAGAIN not-ready
-0 open /dev/tty6 r n -> 0 err EAGAIN not-ready
+0 open /dev/tty0 rw -> 0 sleep carrier
+up tty0 -> tty0 noted wake 0
+0 again -> 0 ok 5
+0 close 5 -> 0 ok 0
+0 open /dev/tty6 r n -> 0 ok 5
+0 close 5 -> 0 ok 0
 0 chmod /dev/tty 600 -> 0 ok 0
 0 setproclabel mls/10(low-high) -> 0 ok 0
 0 setcred 1001 100 - -> 0 ok 0
@@ -57,9 +61,12 @@ pub const SCENES: &str = "
 0 open /tmp/shut r -> 0 err EACCES list
 # That the caller has no line.
 0 open /dev/tty r -> 0 err EACCES list
-# That the line is not ready.
+# That the line has no carrier.
 0 open /dev/tty3 r -> 0 err EACCES list
-0 open /dev/tty2 r -> 0 err EAGAIN not-ready
+0 open /dev/tty2 r -> 0 sleep carrier
+up tty2 -> tty2 noted wake 0
+0 again -> 0 ok 5
+0 close 5 -> 0 ok 0
 0 open /dev/tty7 rw -> 0 ok 5
 0 open /tmp/f w ct -> 0 ok 6
 0 open /bin/cat r -> 0 ok 7

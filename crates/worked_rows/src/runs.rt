@@ -13,11 +13,14 @@ const SCRIPTS: &str = "
 # Nothing is asked.
 script b^^^^0
 # The last close empties both queues, and the last line lacks its newline.
-script b^^0 open /dev/tty7 w|0 open /dev/tty7 r|in tty7 4142|0 write 0 6162|0 close 0|take tty7 1|0 close 1|0 open /dev/tty7 rw|0 read 0 9|take tty7 512^0 ok 0|0 ok 1|tty7 noted|tty7 noted|0 ok 2|0 ok 0|tty7 out 61|0 ok 0|0 ok 0|0 err EAGAIN not-ready|tty7 out -|^0
+script b^^0 open /dev/tty7 w|0 open /dev/tty7 r|in tty7 4142|0 write 0 6162|0 close 0|take tty7 1|0 close 1|0 open /dev/tty7 rw n|0 read 0 9|take tty7 512^0 ok 0|0 ok 1|tty7 noted|tty7 noted|0 ok 2|0 ok 0|tty7 out 61|0 ok 0|0 ok 0|0 err EAGAIN not-ready|tty7 out -|^0
 # Capital hex digits, no bytes, a part of a read, the highest slot, and a count of 0.
 script b^^0 open /dev/tty7 rw|in tty7 4a4B4c|0 read 0 2|0 read 0 0|0 write 0 -|31 close 255|0 close 255|0 read 0 65535|^0 ok 0|tty7 noted|tty7 noted|tty7 noted|0 bytes 4a4b|0 bytes -|0 ok 0|31 gone|0 err EBADF bad-fd|0 err EINVAL size|^0
 # Refusals up to a bad line.
-script b^^0 read 3 5|0 open /dev/tty7 r|0 write 0 61|0 read 0 513|0 read 0 5|1 close 0|0 fork|0 close 0|^0 err EBADF bad-fd|0 ok 0|0 err EBADF fd-mode|0 err EINVAL size|0 err EAGAIN not-ready|1 gone|line 7|^2
+script b^^0 read 3 5|0 open /dev/tty7 r n|0 write 0 61|0 read 0 513|0 read 0 5|1 close 0|0 forks|0 close 0|^0 err EBADF bad-fd|0 ok 0|0 err EBADF fd-mode|0 err EINVAL size|0 err EAGAIN not-ready|1 gone|line 7|^2
+# A last line that lacks its newline is run, and nothing behind a bad line is.
+script b^^0 sigtake|0 sigtake|0 jump|0 sigtake^0 ok 0|0 ok 0|line 3|^2
+script b^^0 sigtake|0 sigtake|0 sigtake^0 ok 0|0 ok 0|0 ok 0|^0
 ";
 
 /// Each way for a line to be bad. Nothing of it is run, and nothing behind it.
@@ -51,9 +54,9 @@ script b^^1 close 0|0 open /dev/tty7 wr|1 close 0|^1 gone|line 2|^2
 script b^^1 close 0|0 open /dev/tty7 rw 600|1 close 0|^1 gone|line 2|^2
 script b^^1 close 0|0 mkdir /tmp/d|1 close 0|^1 gone|line 2|^2
 script b^^1 close 0|0 umask 1000|1 close 0|^1 gone|line 2|^2
-script b^^1 close 0|0 revoke /dev/tty0|1 close 0|^1 gone|line 2|^2
+script b^^1 close 0|0 revoke|1 close 0|^1 gone|line 2|^2
 script b^^1 close 0|in tty7 -|1 close 0|^1 gone|line 2|^2
-script b^^1 close 0|in tty6 61|1 close 0|^1 gone|line 2|^2
+script b^^1 close 0|in tty8 61|1 close 0|^1 gone|line 2|^2
 script b^^1 close 0|in tty7 6|1 close 0|^1 gone|line 2|^2
 script b^^1 close 0|take tty7 0|1 close 0|^1 gone|line 2|^2
 script b^^1 close 0|take tty7 513|1 close 0|^1 gone|line 2|^2
@@ -71,6 +74,9 @@ script b^^~7*10000~|1 close 0|^line 1|^2
 # 262,144 events are the most that a run has.
 script b^^~take tty7 1|*262144~^~tty7 out -|*262144~^0
 script b^^~take tty7 1|*262145~^~tty7 out -|*262144~full|^6
+script b^^~0 sigtake|*262143~^~0 ok 0|*262143~^0
+script b^^~0 sigtake|*262144~^~0 ok 0|*262144~^0
+script b^^~0 sigtake|*262145~^~0 ok 0|*262144~full|^6
 ";
 
 /// Boot texts over the empty script.

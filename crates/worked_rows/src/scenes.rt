@@ -6,7 +6,10 @@
 
 use crate::session::{NO_FAULTS, ROOM, Session};
 use crate::texts::push_expanded;
-use crate::{directories, files, lines, listings, opens, paths, rights, sessions, standard};
+use crate::{
+    directories, files, lines, listings, opens, paths, processes, rights, sessions, standard,
+    terminals,
+};
 use std::alloc::Global;
 use std::test::Fail;
 
@@ -76,16 +79,18 @@ fn is_right(alloc: Global, title: &str, rows: &str) -> Result<bool, Fail> {
     Ok(session.writes(alloc, &pages.answers, 0)?)
 }
 
-const TABLES: [&str; 9] = [
+const TABLES: [&str; 11] = [
     directories::SCENES,
     files::SCENES,
     lines::SCENES,
     listings::SCENES,
     opens::SCENES,
     paths::SCENES,
+    processes::SCENES,
     rights::SCENES,
     sessions::SCENES,
     standard::SCENES,
+    terminals::SCENES,
 ];
 
 #[test]

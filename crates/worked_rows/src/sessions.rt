@@ -60,11 +60,13 @@ in tty7 43 -> tty7 noted
 0 setproclabel mls/equal -> 0 err EPERM proclabel
 
 == devices
-# Lines and the devices: the tree has them, and only line 7 can be opened.
-0 open /dev/tty6 rw -> 0 err EAGAIN not-ready
-0 open /dev/tty0 rw n -> 0 err EAGAIN not-ready
+# Lines and the devices. An open waits for the carrier, but not with flag n, and not of line 7, which has none.
+0 open /dev/tty6 rw -> 0 sleep carrier
+up tty6 -> tty6 noted wake 0
+0 again -> 0 ok 0
+0 open /dev/tty0 rw n -> 0 ok 1
 0 open /dev/tty rw -> 0 err ENXIO no-tty
-0 open /dev/../dev/./tty7 rw -> 0 ok 0
+0 open /dev/../dev/./tty7 rw -> 0 ok 2
 0 unlink /dev/tty7 -> 0 err EBUSY device
 0 info /dev/tty7 -> 0 text line:0:0:600:0
 0 open /dev r -> 0 err EISDIR is-dir
@@ -113,6 +115,28 @@ in tty7 43 -> tty7 noted
 0 ident -> 0 text 1:1001:100:20+30:mls/equal(low-high)
 0 chdir /tmp/d -> 0 err EACCES search
 0 open /tmp/f r x -> 0 err EINVAL flags
+
+== who may revoke a line
+# First the path, then that it leads to a line, and then that the caller is the line's owner or the superuser (revoke(2)). Of those with a
+# remark a later rule would hold too.
+0 revoke /tmp/x -> 0 err ENOENT no-entry
+0 revoke /tmp -> 0 err EINVAL no-revoke
+# `/dev/tty` is no line.
+0 revoke /dev/tty -> 0 err EINVAL no-revoke
+0 revoke /dev/tty0 -> 0 ok 0
+0 setcred 1001 100 - -> 0 ok 0
+# The owner.
+0 revoke /bin/cat -> 0 err EINVAL no-revoke
+0 revoke /dev/tty0 -> 0 err EPERM owner
+
+== who of a high label may revoke a line
+# An active element that no element but high and equal dominates.
+0 setproclabel mls/high(low-high) -> 0 ok 0
+# The label of the file.
+0 revoke /bin/cat -> 0 err EINVAL no-revoke
+0 revoke /dev/tty7 -> 0 ok 0
+0 setcred 1001 100 - -> 0 ok 0
+0 revoke /tmp -> 0 err EINVAL no-revoke
 
 == a raised label with recheck == recheck on
 # A label that was raised since the open stops a read only where labels are looked at again.

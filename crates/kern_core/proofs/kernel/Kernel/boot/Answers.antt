@@ -1,29 +1,35 @@
-use Rattle.std.proofs.Common.{ap, ◌∙◌}
-use Rattle.vnode_tree.specs.Nodes.{path_of}
-use Rattle.machine_model.proofs.Within.{Within-boot}
-use Rattle.file_calls.proofs.Files.{no_file_open}
-use Rattle.kern_core.proofs.Lines.{seen_boot}
+use Rattle.std.proofs.Common.{refl, arith}
+use Rattle.system_laws.proofs.Runs.{boot_within}
+use Rattle.kern_core.proofs.BootLemmas.{boot_fits, boot_seen, boot_revokes, boot_calls}
 use Rattle.kern_core.proofs.kernel.Kernel.boot.Goals as goal
 
 pub invariant_of-result : goal.invariant_of-result
 invariant_of-result c =
-    let home = c.first_caller-caller.ensures.directory in
-    (record { live = rw home c.root.ensures.live; directory = rw home c.root.ensures.directory }, rw c.new-2.ensures (no_file_open c.in_ok-tree.tree 32))
-
-pub returns-clause-seen : goal.returns-clause-seen
-returns-clause-seen c =
-    let caller = c.first_caller-caller in
-    rw (c.new-2.ensures, c.new-3.ensures)
-    (seen_boot c.args.says.now c.in_ok-tree.tree caller.result c.in_ok-tree.ensures.nodes
-    (ap (path_of c.in_ok-tree.tree) caller.ensures.directory ∙ c.root.ensures.path) caller.ensures.cred caller.ensures.label caller.ensures.umask)
+    let tree = c.in_ok-tree.ensures in
+    let pool = c.in_ok-pool.ensures in
+    let lines = c.lines_at_boot.ensures in
+    rw (c.in_ok-fds.ensures, c.in_ok-procs.ensures, c.new-6.ensures) (
+      boot_fits c.args.says.now c.in_ok-tree.tree c.new-5.result c.in_ok-pool.pool c.lines_at_boot.result c.args.says.now.recheck tree.root tree.nodes
+          tree.places c.new-5.ensures.none c.new-5.ensures.blocks pool.size pool.all lines.counts lines.boots lines.held lines.blocks,
+      tt,
+    )
 
 pub returns-clause-stands : goal.returns-clause-stands
 returns-clause-stands c =
-    let caller = c.first_caller-caller in
+    let tree = c.in_ok-tree.ensures in
     record {
       seen =
-          rw (c.new-2.ensures, c.new-3.ensures)
-          (seen_boot c.args.says.now c.in_ok-tree.tree caller.result c.in_ok-tree.ensures.nodes
-          (ap (path_of c.in_ok-tree.tree) caller.ensures.directory ∙ c.root.ensures.path) caller.ensures.cred caller.ensures.label caller.ensures.umask);
-      within = Within-boot c.args.says.now;
+          rw (c.in_ok-fds.ensures, c.in_ok-procs.ensures, c.new-6.ensures)
+          (boot_seen c.args.says.now c.in_ok-tree.tree c.new-5.result c.in_ok-pool.pool c.lines_at_boot.result tree.root tree.nodes c.new-5.ensures.none
+          (c.lines_at_boot.ensures.devices c.in_ok-pool.pool));
+      within = boot_within c.args.says.now;
+    }
+
+pub returns-clause-after : goal.returns-clause-after
+returns-clause-after c =
+    record {
+      revokes = boot_revokes c.in_ok-pool.pool c.lines_at_boot.result c.lines_at_boot.ensures.counts (c.lines_at_boot.ensures.devices c.in_ok-pool.pool);
+      pids = rw c.in_ok-procs.ensures (omega arith);
+      calls = rw c.in_ok-procs.ensures boot_calls;
+      ending = rw c.new-6.ensures refl;
     }

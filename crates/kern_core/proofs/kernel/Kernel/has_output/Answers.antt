@@ -1,22 +1,19 @@
-use Rattle.std.proofs.Common.{not, length, ap, sym, ◌∙◌}
-use Rattle.std.specs.Prelude.{◌&&◌, ◌==◌}
-use Rattle.call_words.specs.declared.event.Event.TheVariants.{Take}
-use Rattle.machine_model.specs.Step.{answer_to, gives_a_byte}
-use Rattle.kern_core.proofs.Lines.{wakes_line}
+use Rattle.std.proofs.Common.{true, false, not, refl, sym, ap, ◌∙◌}
+use Rattle.line_disc.specs.Device.{is_takeable}
+use Rattle.line_disc.specs.Lines.{line_at}
+use Rattle.tty_dev.specs.Table.{devices}
+use Rattle.system_model.specs.Tables.{Tables}
+use Rattle.kern_core.proofs.WakeLemmas.{gives_output}
 use Rattle.kern_core.proofs.kernel.Kernel.has_output.Goals as goal
 
-pub returns-then-any_live : goal.returns-then-any_live
-returns-then-any_live c =
-    let k = c.self.inside in
-    ap not c.has_no_output.ensures
-    ∙ ap (λ b. b && not (length k.line.output == 0)) (sym (sym c.any_live.ensures ∙ c.if-any_live.true))
-    ∙ sym (wakes_line k.tree k.files k.caller k.line k.recheck)
-    ∙ ap (λ v. gives_a_byte (answer_to v (Take 7 512))) c.self.view_is
+pub returns-then-not-self : goal.returns-then-not-self
+returns-then-not-self c =
+    gives_output c.args.self.now c.args.line false c.is_takeable.result
+    (ap (λ (t : Tables). t.halted) (sym c.self.view_is) ∙ c.if-not-self.true)
+    (c.is_takeable.ensures c.args.self.now.pool
+    ∙ ap (λ (t : Tables). is_takeable (line_at (devices c.args.self.now.pool t.lines) c.args.line)) c.self.view_is)
 
-pub returns-else-any_live : goal.returns-else-any_live
-returns-else-any_live c =
-    let k = c.self.inside in
-    c.if-any_live.false
-    ∙ ap (λ b. b && not (length k.line.output == 0)) (sym (sym c.any_live.ensures ∙ c.if-any_live.false))
-    ∙ sym (wakes_line k.tree k.files k.caller k.line k.recheck)
-    ∙ ap (λ v. gives_a_byte (answer_to v (Take 7 512))) c.self.view_is
+pub returns-else-not-self : goal.returns-else-not-self
+returns-else-not-self c =
+    ap not c.if-not-self.false
+    ∙ gives_output c.args.self.now c.args.line true _ (ap (λ (t : Tables). t.halted) (sym c.self.view_is) ∙ c.if-not-self.false) refl

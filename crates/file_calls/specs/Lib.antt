@@ -1,5 +1,0 @@
-pub mod Makes
-pub mod Moves
-pub mod OpenFiles
-pub mod Opens
-pub mod Views

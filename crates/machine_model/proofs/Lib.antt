@@ -1,6 +1,0 @@
-pub mod Within
-pub mod SeenSteps
-pub mod Waking
-mod Labelled
-mod Origins
-pub mod Lawful
