@@ -7,10 +7,10 @@ use Rattle.user_db.specs.declared.boot.Boot.{Boot}
 use Rattle.system_model.specs.State.{State, View, view, boot}
 use Rattle.system_model.specs.Step.{step, view_after, answer_to, wakes}
 use Rattle.system_laws.specs.Stands.{Within}
-use Rattle.script_model.specs.Reading.{Asked}
+use Rattle.script_model.specs.Reading.{ScriptEvents}
 use Rattle.script_text.specs.Answers.{answer_line}
 use Rattle.script_model.specs.Script.{answers_from, stop_before, stops_from, stops, full_end, text_end, run_end, run_out}
-use Rattle.script_model.specs.Seen.{answers_seen, stops_seen, out_seen, joined}
+use Rattle.script_model.specs.Seen.{answers_seen, stops_seen, out_seen, with_line}
 use Rattle.system_laws.proofs.Runs.{step_seen, step_within, boot_within}
 
 ltb-suc : (m n : ℕ) → ltb (suc m) (suc n) ≡ ltb m n
@@ -36,16 +36,16 @@ stops_seen-from (e ∷ es) s n h =
     (stops_seen-from es after (n + 1) (step_within s n e h) ∙ ap (λ v. stops_seen v es) (step_seen s n e h))
 
 -- from boot all of a run is still to come
-pub run_out-seen : (says : Boot) (asked : Asked) → run_out says asked ≡ out_seen (view (boot says)) TRAIL_EVENTS asked
+pub run_out-seen : (says : Boot) (script : ScriptEvents) → run_out says script ≡ out_seen (view (boot says)) TRAIL_EVENTS script
 unfolding out_seen
-run_out-seen says asked =
-    let es = take TRAIL_EVENTS asked.events in
-    ap (λ bs. record { bytes = bs ++ (run_end TRAIL_EVENTS asked).bytes; status = (run_end TRAIL_EVENTS asked).status; stops = stops says es })
+run_out-seen says script =
+    let es = take TRAIL_EVENTS script.events in
+    ap (λ bs. record { bytes = bs ++ (run_end TRAIL_EVENTS script).bytes; status = (run_end TRAIL_EVENTS script).status; stops = stops says es })
     (answers_seen-from es (boot says) 0 (boot_within says))
     ∙ ap
     (λ fronts. record {
-      bytes = answers_seen (view (boot says)) es ++ (run_end TRAIL_EVENTS asked).bytes;
-      status = (run_end TRAIL_EVENTS asked).status;
+      bytes = answers_seen (view (boot says)) es ++ (run_end TRAIL_EVENTS script).bytes;
+      status = (run_end TRAIL_EVENTS script).status;
       stops = fronts;
     })
     (stops_seen-from es (boot says) 0 (boot_within says))
@@ -66,7 +66,7 @@ out_seen-full v e es bad = rw (lt-ltb 0 (length (e ∷ es)) (omega arith)) refl
 -- an event for which there is room is answered, and the others come after it
 pub out_seen-event : (v : View) (room : ℕ) (e : Event) (es : List Event) (bad : Option ℕ)
     → out_seen v (suc room) (record { events = e ∷ es; bad = bad })
-    ≡ joined v e (answer_line e (answer_to v e) (wakes (view_after v e))) (out_seen (view_after v e) room (record { events = es; bad = bad }))
+    ≡ with_line v e (answer_line e (answer_to v e) (wakes (view_after v e))) (out_seen (view_after v e) room (record { events = es; bad = bad }))
 unfolding out_seen answers_seen stops_seen
 out_seen-event v room e es bad =
     rw (ltb-suc room (length es))

@@ -14,7 +14,7 @@ use Rattle.script_text.specs.Printing.{behind_blanks, line_text, event_line}
 use Rattle.script_text.proofs.OneWord.{IsSolid, word_is_solid}
 use Rattle.script_text.proofs.LinesBack.{event_back}
 use Rattle.script_model.specs.Reading.{reads_from, reads}
-use Rattle.script_model.specs.Script.{answers, text_end, run_out, script_out, written}
+use Rattle.script_model.specs.Script.{answers, text_end, run_out, script_out, bytes_and_status}
 use Rattle.script_model.specs.Trail.{trail, IsPrintable}
 
 -- each byte is a blank or above
@@ -69,10 +69,10 @@ pub trail_back : (es : List Event) → AllByRecursion IsPrintable es → reads (
 trail_back es h = ap (reads_from 1) (lines_of_trail es h) ∙ trail_is_read es 1 h
 
 -- a run of events for which there is room, without a bad line
-run_to_its_end : (says : Boot) (es : List Event) → length es ≤ TRAIL_EVENTS → written (run_out says (record { events = es; bad = None })) ≡ (answers says es, 0)
+run_to_its_end : (says : Boot) (es : List Event) → length es ≤ TRAIL_EVENTS → bytes_and_status (run_out says (record { events = es; bad = None })) ≡ (answers says es, 0)
 unfolding text_end
 run_to_its_end says es room = rw (le-ltb TRAIL_EVENTS (length es) room, take_all TRAIL_EVENTS es room, append-nil) refl
 
 pub trail_is_answered : (boot_text : List ℕ) (says : Boot) (es : List Event) → boot_of boot_text ≡ Ok says → length es ≤ TRAIL_EVENTS
-    → AllByRecursion IsPrintable es → written (script_out boot_text (trail es)) ≡ (answers says es, 0)
+    → AllByRecursion IsPrintable es → bytes_and_status (script_out boot_text (trail es)) ≡ (answers says es, 0)
 trail_is_answered boot_text says es good room h = rw (good, trail_back es h) (run_to_its_end says es room)

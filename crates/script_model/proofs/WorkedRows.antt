@@ -1,7 +1,7 @@
 -- The definitions compute the worked runs, from the bytes of a script to the bytes of its answers.
 use Rattle.std.proofs.Common.{◌≡◌, [], refl}
 use Rattle.std.specs.Prelude.{codes}
-use Rattle.script_model.specs.Script.{script_out, written as writes}
+use Rattle.script_model.specs.Script.{script_out, bytes_and_status as writes}
 use Rattle.script_model.proofs.Computing.{rows_compute}
 
 empty_text : writes (script_out [] []) ≡ ([], 0)

@@ -8,7 +8,7 @@ use Rattle.system_model.specs.State.{State, View, view, boot}
 use Rattle.system_model.specs.Rows.{first}
 use Rattle.system_model.specs.Step.{row, step, wakes}
 use Rattle.system_model.specs.Memory.{may_want_memory}
-use Rattle.script_model.specs.Reading.{Asked, reads}
+use Rattle.script_model.specs.Reading.{ScriptEvents, reads}
 use Rattle.script_text.specs.Answers.{answer_line}
 use Rattle.user_db.specs.declared.boot.Boot.{Boot}
 use Rattle.user_db.specs.Boot.{boot_of}
@@ -45,8 +45,8 @@ pub record Output : Type 0 where
   pub stops : List (List ℕ)
 
 -- what is written of it where memory does not run out, and the status
-abbrev pub written : Output → List ℕ × ℕ
-written out = (out.bytes, out.status)
+abbrev pub bytes_and_status : Output → List ℕ × ℕ
+bytes_and_status out = (out.bytes, out.status)
 
 -- the last line and the status of a text's end: of a text that was read to its end, or of one
 -- with a bad line
@@ -59,15 +59,15 @@ abbrev pub full_end : Output
 full_end = record { bytes = codes "full\n"; status = 6; stops = [] }
 
 -- the end of a run that has room for so many events
-abbrev pub run_end : ℕ → Asked → Output
-run_end room asked = if nat_lt room (length asked.events) then full_end else text_end asked.bad
+abbrev pub run_end : ℕ → ScriptEvents → Output
+run_end room script = if nat_lt room (length script.events) then full_end else text_end script.bad
 
 -- a run of what a text asks: the answers of at most 262,144 events, and the end
-abbrev pub run_out : Boot → Asked → Output
-run_out says asked = record {
-  bytes = answers says (take TRAIL_EVENTS asked.events) ++ (run_end TRAIL_EVENTS asked).bytes;
-  status = (run_end TRAIL_EVENTS asked).status;
-  stops = stops says (take TRAIL_EVENTS asked.events);
+abbrev pub run_out : Boot → ScriptEvents → Output
+run_out says script = record {
+  bytes = answers says (take TRAIL_EVENTS script.events) ++ (run_end TRAIL_EVENTS script).bytes;
+  status = (run_end TRAIL_EVENTS script).status;
+  stops = stops says (take TRAIL_EVENTS script.events);
 }
 
 -- the one line and the status of a boot text of which line n is the first bad one

@@ -1,6 +1,6 @@
-pub mod Told
+pub mod OutputLemmas
 pub mod OneEvent
 pub mod LinesCome
-pub mod Sourced
-pub mod Ran
-pub mod Booting
+pub mod SourceLemmas
+pub mod TopLemmas
+pub mod BootTextLemmas

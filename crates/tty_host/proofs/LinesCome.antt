@@ -13,10 +13,10 @@ use Rattle.user_db.specs.Lines.{is_newline, without_empty_last, lines}
 use Rattle.script_model.specs.Reading.{reads_from}
 use Rattle.script_text.specs.Reading.{events_of_line}
 use Rattle.tty_host.specs.declared.run.Stop.{Stop}
-use Rattle.tty_host.specs.Told.{Goes, ended}
+use Rattle.tty_host.specs.Outputs.{Goes, status_alone}
 use Rattle.tty_host.specs.OneLine.{is_one_line}
-use Rattle.tty_host.proofs.Told.{goes-stop}
-use Rattle.tty_host.proofs.OneEvent.{asked}
+use Rattle.tty_host.proofs.OutputLemmas.{goes-stop}
+use Rattle.tty_host.proofs.OneEvent.{script_of}
 
 -- the parts of a text: the first, and the others
 record Parts (text : List ℕ) : Type 0 where
@@ -92,7 +92,7 @@ lines-long line text one long =
 
 -- a good line gives its events first
 pub good-line : (v : View) (room n : ℕ) (l : List ℕ) (ls : List (List ℕ)) (es : List Event) → Some es ≡ events_of_line l
-    → out_seen v room (reads_from n (l ∷ ls)) ≡ out_seen v room (asked (es ++ (reads_from (n + 1) ls).events) (reads_from (n + 1) ls).bad)
+    → out_seen v room (reads_from n (l ∷ ls)) ≡ out_seen v room (script_of (es ++ (reads_from (n + 1) ls).events) (reads_from (n + 1) ls).bad)
 good-line v room n l ls es h = rw (← h) refl
 
 -- a bad line ends all
@@ -117,6 +117,6 @@ goes-emptied (Ok u) a b x F line text empty h = rw empty h
 goes-emptied (Err s) a b x F line text empty h = goes-stop s a b x (F (lines text)) (F (lines (line ++ text))) h
 
 -- with no line left to come the text ends
-pub none-come : (v : View) (room n : ℕ) → ended 0 ≡ out_seen v room (reads_from n [])
+pub none-come : (v : View) (room n : ℕ) → status_alone 0 ≡ out_seen v room (reads_from n [])
 unfolding text_end
 none-come v room n = sym (out_seen-end v room None)

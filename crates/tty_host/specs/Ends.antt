@@ -2,7 +2,7 @@
 use Rattle.std.specs.Prelude.{◌≡◌, ◌⊎◌, ℕ, List, Option}
 use Rattle.edge_io.specs.Outside.{Appended}
 use Rattle.script_model.specs.Script.{Output}
-use Rattle.tty_host.specs.Told.{Began, StoppedAt}
+use Rattle.tty_host.specs.Outputs.{Began, StoppedAt}
 use Rattle.tty_host.specs.declared.run.Stop.{Stop}
 use Rattle.tty_host.specs.declared.run.Stop.TheVariants as stop
 use Rattle.tty_host.specs.declared.status.Status.{Status}
@@ -37,18 +37,18 @@ stop_status stop.Failed = WriteFault
 stop_status stop.NoMemory = Memory
 
 -- all of the output was written, and the status is the output's
-pub record WroteAll (status : Status) (out : Output) (told after : Option (List ℕ)) : Type 0 where
-  pub appended : Appended told after out.bytes
+pub record WroteAll (status : Status) (out : Output) (before after : Option (List ℕ)) : Type 0 where
+  pub appended : Appended before after out.bytes
   pub code : out.status ≡ code_of status
 
 -- What a script wrote, by the status with which it ended: all of the machine's output; after a fault the front of it; and where
 -- memory ran out nothing, or all answers before a write. No script ends in another way.
 abbrev pub Writes : Status → Output → Option (List ℕ) → Option (List ℕ) → Type 0
-Writes Done out told after = WroteAll Done out told after
-Writes Usage out told after = ⊥
-Writes Input out told after = WroteAll Input out told after
-Writes ReadFault out told after = Began told out.bytes after
-Writes WriteFault out told after = Began told out.bytes after
-Writes Memory out told after = (after ≡ told) ⊎ StoppedAt told out.stops after
-Writes Full out told after = WroteAll Full out told after
-Writes NoWorker out told after = ⊥
+Writes Done out before after = WroteAll Done out before after
+Writes Usage out before after = ⊥
+Writes Input out before after = WroteAll Input out before after
+Writes ReadFault out before after = Began before out.bytes after
+Writes WriteFault out before after = Began before out.bytes after
+Writes Memory out before after = (after ≡ before) ⊎ StoppedAt before out.stops after
+Writes Full out before after = WroteAll Full out before after
+Writes NoWorker out before after = ⊥

@@ -1,5 +1,5 @@
 pub mod OneLine
-pub mod Told
+pub mod Outputs
 pub mod Ends
 pub mod Come
 pub mod Uses

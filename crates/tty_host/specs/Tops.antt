@@ -8,8 +8,8 @@ use Rattle.user_db.specs.declared.boot.Boot.{Boot}
 use Rattle.user_db.specs.Boot.{boot_of}
 use Rattle.script_model.specs.Script.{script_out}
 use Rattle.system_laws.specs.RunLaws.{ObeysLaws}
-use Rattle.tty_host.specs.Uses.{SourceUse, SinkUse, SourceFailed, SinkFailed, Unread}
-use Rattle.tty_host.specs.Told.{Began}
+use Rattle.tty_host.specs.Uses.{SourceUse, SinkUse, SourceFailed, SinkFailed, IsUnread}
+use Rattle.tty_host.specs.Outputs.{Began}
 use Rattle.tty_host.specs.Ends.{IsScriptStatus, Writes}
 use Rattle.tty_host.specs.declared.choice.Choice.{Choice}
 use Rattle.tty_host.specs.declared.choice.Choice.TheVariants as choice
@@ -26,7 +26,7 @@ pub record IsValid (boot_text text : List ℕ) : Type 0 where
 pub record RanScript (status : Status) (boot src : SourceUse) (out : SinkUse) : Type 0 where
   -- what was written is the machine's output, with its status, or after a fault the front of it, or where memory ran out nothing
   -- or all answers before a write
-  pub output : (boot_text text : List ℕ) → boot.left ≡ Some boot_text → src.left ≡ Some text → Writes status (script_out boot_text text) out.told out.after
+  pub output : (boot_text text : List ℕ) → boot.left ≡ Some boot_text → src.left ≡ Some text → Writes status (script_out boot_text text) out.before out.after
   -- status 0 says that the text was read to its end
   pub all_read : (text : List ℕ) → src.left ≡ Some text → status ≡ Done → src.rest ≡ Some []
   -- valid texts give status 0 where nothing failed and there was memory
@@ -37,7 +37,7 @@ pub record RanScript (status : Status) (boot src : SourceUse) (out : SinkUse) : 
   pub write_fault : status ≡ WriteFault → SinkFailed out
   pub others : IsScriptStatus status
   -- the boot text is read before the script, which is not read where that has a bad line
-  pub unread : (boot_text : List ℕ) → boot.left ≡ Some boot_text → IsErr (boot_of boot_text) → Unread src
+  pub unread : (boot_text : List ℕ) → boot.left ≡ Some boot_text → IsErr (boot_of boot_text) → IsUnread src
   -- In the run of the script each denial names the first rule that holds, and each sleep its reason; no byte moves through a file of a
   -- line that was opened before the line's last revoke; labels allow each open, and each read and write that looks at them; and a slot
   -- waits just where another try of its call would sleep and change nothing.
@@ -50,10 +50,10 @@ usage_line = codes "usage: revtty script [BOOT] | session [BOOT] | load N START 
 -- The usage line was written, or after a fault the front of it.
 abbrev pub WroteUsage : Status → SinkUse → Type 0
 WroteUsage Done out = ⊥
-WroteUsage Usage out = Appended out.told out.after usage_line
+WroteUsage Usage out = Appended out.before out.after usage_line
 WroteUsage Input out = ⊥
 WroteUsage ReadFault out = ⊥
-WroteUsage WriteFault out = SinkFailed out × Began out.told usage_line out.after
+WroteUsage WriteFault out = SinkFailed out × Began out.before usage_line out.after
 WroteUsage Memory out = ⊥
 WroteUsage Full out = ⊥
 WroteUsage NoWorker out = ⊥

@@ -12,7 +12,7 @@ pub record SourceUse : Type 0 where
 
 -- a sink: what was written before and after, where the sink tells that, and its count of faults
 pub record SinkUse : Type 0 where
-  pub told : Option (List ℕ)
+  pub before : Option (List ℕ)
   pub after : Option (List ℕ)
   pub faults : ℕ
   pub later : ℕ
@@ -21,7 +21,7 @@ abbrev pub source_use : {S : Type 0} → (S → Option (List ℕ)) → (S → �
 source_use left faults old new = record { left = left old; rest = left new; faults = faults old; later = faults new }
 
 abbrev pub sink_use : {K : Type 0} → (K → Option (List ℕ)) → (K → ℕ) → K → K → SinkUse
-sink_use written faults old new = record { told = written old; after = written new; faults = faults old; later = faults new }
+sink_use written faults old new = record { before = written old; after = written new; faults = faults old; later = faults new }
 
 abbrev pub SourceFailed : SourceUse → Type 0
 SourceFailed u = Rose u.faults u.later
@@ -30,8 +30,8 @@ abbrev pub SinkFailed : SinkUse → Type 0
 SinkFailed u = Rose u.faults u.later
 
 -- as before the call
-abbrev pub Unread : SourceUse → Type 0
-Unread u = (u.rest ≡ u.left) × (u.later ≡ u.faults)
+abbrev pub IsUnread : SourceUse → Type 0
+IsUnread u = (u.rest ≡ u.left) × (u.later ≡ u.faults)
 
 abbrev pub Unwritten : SinkUse → Type 0
-Unwritten u = (u.after ≡ u.told) × (u.later ≡ u.faults)
+Unwritten u = (u.after ≡ u.before) × (u.later ≡ u.faults)

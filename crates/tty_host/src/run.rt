@@ -10,7 +10,7 @@ ghost use Rattle.system_model.specs.Tables.{view_of};
 ghost use Rattle.script_model.specs.Script.{Output, text_end};
 ghost use Rattle.sys_types.specs.declared.limits.TheConstants.{TRAIL_EVENTS};
 ghost use Rattle.kern_core.specs.Bounds.{IsAfter, is_after_prop};
-ghost use Rattle.tty_host.specs.Told.{Began};
+ghost use Rattle.tty_host.specs.Outputs.{Began};
 ghost use Rattle.tty_host.specs.Ends.{IsScriptStatus, stop_status};
 ghost use Rattle.tty_host.specs.OneLine.{is_one_line};
 
@@ -48,13 +48,14 @@ impl Stop {
 }
 
 /// A run: the kernel, for how many events more there is room, the number of the line that is
-/// being read, and what has come of it.
+/// being read, what has come of it, and the room in which answers are printed.
 #[derive(Drop)]
 pub struct Run {
     pub kernel: Kernel,
     pub room: u32,
     pub number: u32,
     pub line: ArrayVec<u8, SCRIPT_LINE_BYTES>,
+    pub answer: AnswerLine,
     ghost most: { room ≤ TRAIL_EVENTS },
     ghost after: { IsAfter (TRAIL_EVENTS - room) kernel } by { is_after_prop (TRAIL_EVENTS - room) kernel },
     ghost within: { number + room ≤ 262145 },
@@ -79,7 +80,7 @@ pub fn write_all<K: Sink>(out: &mut K, bytes: &[u8]) -> Result<(), Failed>
 
 impl Run {
     ghost use Rattle.tty_host.specs.Come.{come, lines_come, to_come, budget};
-    ghost use Rattle.tty_host.specs.Told.{Goes, ended};
+    ghost use Rattle.tty_host.specs.Outputs.{Goes, status_alone};
     ghost use Rattle.tty_host.specs.Ends.{Writes};
 
     /// A run from a boot, with no byte of its text read. The boot is one that some boot text gives.
@@ -96,6 +97,7 @@ impl Run {
             room: TRAIL_EVENTS,
             number: 1,
             line: ArrayVec::new(),
+            answer: AnswerLine::new(),
         })
     }
 
@@ -123,9 +125,9 @@ impl Run {
             Err(NoMemory) => return Err(Stop::NoMemory),
         };
         self.room -= 1;
-        let mut line = AnswerLine::new();
-        print_answer(event, &decision, &wakes, &mut line);
-        match write_all(out, line.as_slice()) {
+        self.answer.clear();
+        print_answer(event, &decision, &wakes, &mut self.answer);
+        match write_all(out, self.answer.as_slice()) {
             Ok(()) => Ok(()),
             Err(Failed) => Err(Stop::Failed),
         }
@@ -217,7 +219,7 @@ impl Run {
     /// Ends the text. Its last line may lack the newline.
     fn finish<K: Sink>(&mut self, out: &mut K) -> Result<(), Stop>
         ensures goes { Goes result
-            (K.written out.old) (to_come self.old []) (K.written out.new) (ended 0) }
+            (K.written out.old) (to_come self.old []) (K.written out.new) (status_alone 0) }
         ensures failed { result ≡ Err Stop.Failed → Rose (K.faults out.old) (K.faults out.new) }
         ensures grows { K.faults out.old ≤ K.faults out.new }
     {

@@ -1,6 +1,6 @@
 use Rattle.std.proofs.Common.{◌∙◌, ap, sym}
 use Rattle.user_db.specs.Boot.{boot_of}
-use Rattle.tty_host.proofs.Booting.{enough-says}
+use Rattle.tty_host.proofs.BootTextLemmas.{enough-says}
 use Rattle.tty_host.proofs.boot.take_boot.Goals as goal
 
 pub returns-in-Ok-clause-reads : goal.returns-in-Ok-clause-reads

@@ -1,5 +1,5 @@
 use Rattle.std.proofs.Common.{◌∙◌, arith}
-use Rattle.tty_host.proofs.Told.{appended-take}
+use Rattle.tty_host.proofs.OutputLemmas.{appended-take}
 use Rattle.tty_host.proofs.run.write_all.Goals as goal
 
 pub loop-at-preserved : goal.loop-at-preserved

@@ -1,6 +1,6 @@
 use Rattle.std.proofs.Common.{subst}
 use Rattle.tty_host.specs.Ends.{Writes}
-use Rattle.tty_host.proofs.Ran.{start-come}
+use Rattle.tty_host.proofs.TopLemmas.{start-come}
 use Rattle.tty_host.proofs.top.run_script.Goals as goal
 
 pub returns-in-Ok-clause-writes : goal.returns-in-Ok-clause-writes

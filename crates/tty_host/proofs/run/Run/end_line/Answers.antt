@@ -1,7 +1,7 @@
 use Rattle.std.proofs.Common.{ap, ◌∙◌}
 use Rattle.std.proofs.lemmas.Result.{err_from_is_err_and}
 use Rattle.script_text.specs.Reading.{events_of_line}
-use Rattle.tty_host.proofs.Told.{goes-at, goes-stop}
+use Rattle.tty_host.proofs.OutputLemmas.{goes-at, goes-stop}
 use Rattle.tty_host.proofs.LinesCome.{good-line, bad-line}
 use Rattle.tty_host.proofs.run.Run.end_line.Goals as goal
 

@@ -2,7 +2,7 @@ use Rattle.std.proofs.Common.{◌≡◌, ◌<◌, ◌++◌, ◌∷◌, [], lengt
 use Rattle.user_db.specs.Lines.{lines}
 use Rattle.system_model.specs.Tables.{view_of}
 use Rattle.tty_host.specs.Come.{lines_come}
-use Rattle.tty_host.proofs.Told.{goes-at, goes-ok, keeps-same}
+use Rattle.tty_host.proofs.OutputLemmas.{goes-at, goes-ok, keeps-same}
 use Rattle.tty_host.proofs.LinesCome.{lines-newline, one_line-byte, long-line, goes-emptied}
 use Rattle.tty_host.proofs.run.Run.feed.Goals as goal
 

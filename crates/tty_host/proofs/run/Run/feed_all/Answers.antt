@@ -1,7 +1,7 @@
 use Rattle.std.proofs.Common.{◌+◌, ◌++◌, ◌≤◌, length, drop, ap, arith, drop_of_length-le}
 use Rattle.std.proofs.lemmas.Result.{err_from_is_err_and}
 use Rattle.tty_host.specs.Come.{to_come}
-use Rattle.tty_host.proofs.Told.{keeps-same, keeps-more, keeps-at, keeps-ok, goes-more, goes-at, goes-stop, goes-ok, rose-later}
+use Rattle.tty_host.proofs.OutputLemmas.{keeps-same, keeps-more, keeps-at, keeps-ok, goes-more, goes-at, goes-stop, goes-ok, rose-later}
 use Rattle.tty_host.proofs.OneEvent.{text-cons}
 use Rattle.tty_host.proofs.run.Run.feed_all.Goals as goal
 

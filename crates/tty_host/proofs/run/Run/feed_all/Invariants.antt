@@ -1,5 +1,5 @@
 use Rattle.std.proofs.Common.{◌+◌, ◌≤◌, ◌++◌, List, ℕ, drop}
-use Rattle.tty_host.specs.Told.{Keeps}
+use Rattle.tty_host.specs.Outputs.{Keeps}
 use Rattle.tty_host.specs.Come.{to_come, budget}
 use Rattle.tty_host.proofs.run.Run.feed_all.Given as goal
 

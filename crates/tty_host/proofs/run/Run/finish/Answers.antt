@@ -2,7 +2,7 @@ use Rattle.std.proofs.Common.{◌<◌, [], length, ap, ◌∙◌, arith, sym, eq
 use Rattle.std.proofs.lemmas.Bool.{eqb-false}
 use Rattle.system_model.specs.Tables.{view_of}
 use Rattle.tty_host.specs.Come.{lines_come}
-use Rattle.tty_host.proofs.Told.{goes-at, goes-to, goes-ok, keeps-same}
+use Rattle.tty_host.proofs.OutputLemmas.{goes-at, goes-to, goes-ok, keeps-same}
 use Rattle.tty_host.proofs.LinesCome.{lines-none, lines-end, none-come}
 use Rattle.tty_host.proofs.run.Run.finish.Goals as goal
 

@@ -1,6 +1,6 @@
 use Rattle.std.proofs.Common.{◌≤◌, length, ◌∙◌, arith, refl, drop_of_length-le}
 use Rattle.std.proofs.lemmas.Result.{err_from_is_err_and}
-use Rattle.tty_host.proofs.Told.{keeps-same, goes-stop, goes-ok, keeps-ok, rose-later}
+use Rattle.tty_host.proofs.OutputLemmas.{keeps-same, goes-stop, goes-ok, keeps-ok, rose-later}
 use Rattle.tty_host.proofs.OneEvent.{keeps-next, goes-next}
 use Rattle.tty_host.proofs.run.Run.run_events.Goals as goal
 

@@ -1,6 +1,6 @@
 use Rattle.std.proofs.Common.{◌≡◌, ◌+◌, ◌≤◌, ◌++◌, List, ℕ, Option, drop}
 use Rattle.call_words.specs.declared.event.Event.{Event}
-use Rattle.tty_host.specs.Told.{Keeps}
+use Rattle.tty_host.specs.Outputs.{Keeps}
 use Rattle.tty_host.specs.Come.{come}
 use Rattle.tty_host.proofs.run.Run.run_events.Given as goal
 

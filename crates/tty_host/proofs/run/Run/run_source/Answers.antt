@@ -1,7 +1,7 @@
 use Rattle.std.proofs.Common.{ap, arith}
 use Rattle.tty_host.specs.Come.{to_come}
-use Rattle.tty_host.proofs.Told.{keeps-more, keeps-at, keeps-ok, goes-more, goes-at}
-use Rattle.tty_host.proofs.Sourced.{gave-took, writes-stop, writes-done}
+use Rattle.tty_host.proofs.OutputLemmas.{keeps-more, keeps-at, keeps-ok, goes-more, goes-at}
+use Rattle.tty_host.proofs.SourceLemmas.{gave-took, writes-stop, writes-done}
 use Rattle.tty_host.proofs.run.Run.run_source.Goals as goal
 
 pub returns-in-Err-clause-writes : goal.returns-in-Err-clause-writes

@@ -1,5 +1,5 @@
 use Rattle.std.proofs.Common.{◌≡◌, ◌≤◌, List, ℕ, Some}
-use Rattle.tty_host.specs.Told.{Keeps}
+use Rattle.tty_host.specs.Outputs.{Keeps}
 use Rattle.tty_host.specs.Come.{to_come, budget}
 use Rattle.tty_host.proofs.run.Run.run_source.Given as goal
 

@@ -12,7 +12,7 @@ use Rattle.system_laws.proofs.RunsObey.{obeys}
 use Rattle.tty_host.specs.declared.run.Run.{Run}
 use Rattle.tty_host.specs.declared.status.Status.{Status}
 use Rattle.tty_host.specs.declared.status.Status.TheVariants.{Done, Usage, Input, ReadFault, WriteFault, Memory, Full, NoWorker}
-use Rattle.tty_host.specs.Uses.{SourceUse, SinkUse, SourceFailed, SinkFailed, Unread}
+use Rattle.tty_host.specs.Uses.{SourceUse, SinkUse, SourceFailed, SinkFailed, IsUnread}
 use Rattle.tty_host.specs.Come.{to_come}
 use Rattle.tty_host.specs.Ends.{IsScriptStatus, Writes}
 use Rattle.tty_host.specs.Tops.{IsValid, RanScript}
@@ -56,16 +56,16 @@ complete Full out a b s w zero read write = absurd (omega (arith, w.code))
 complete NoWorker out a b s w zero read write = absurd s
 
 -- the parts of the promise, of which completeness follows from the others
-pub ran : (status : Status) (source src : SourceUse) (out : SinkUse)
-    → ((boot_text text : List ℕ) → source.left ≡ Some boot_text → src.left ≡ Some text → Writes status (script_out boot_text text) out.told out.after)
+pub script_ran : (status : Status) (source src : SourceUse) (out : SinkUse)
+    → ((boot_text text : List ℕ) → source.left ≡ Some boot_text → src.left ≡ Some text → Writes status (script_out boot_text text) out.before out.after)
     → ((text : List ℕ) → src.left ≡ Some text → status ≡ Done → src.rest ≡ Some [])
     → (status ≡ ReadFault → SourceFailed source ⊎ SourceFailed src) → (status ≡ WriteFault → SinkFailed out) → IsScriptStatus status
-    → ((boot_text : List ℕ) → source.left ≡ Some boot_text → IsErr (boot_of boot_text) → Unread src) → RanScript status source src out
-ran status source src out output all_read read write others unread = record {
+    → ((boot_text : List ℕ) → source.left ≡ Some boot_text → IsErr (boot_of boot_text) → IsUnread src) → RanScript status source src out
+script_ran status source src out output all_read read write others unread = record {
   output = output;
   all_read = all_read;
   complete = λ boot_text text bl sl valid no_boot no_src no_out.
-      complete status (script_out boot_text text) out.told out.after others (output boot_text text bl sl) (valid-status boot_text text valid)
+      complete status (script_out boot_text text) out.before out.after others (output boot_text text bl sl) (valid-status boot_text text valid)
       (λ e. elim (read e) [ inl b ↦ no_boot b | inr s ↦ no_src s ]) (λ e. no_out (write e));
   read_fault = read;
   write_fault = write;

@@ -6,7 +6,7 @@ use Rattle.tty_host.specs.declared.run.Stop.{Stop}
 use Rattle.tty_host.specs.declared.run.Stop.TheVariants.{BadLine, Full, Failed, NoMemory}
 use Rattle.tty_host.specs.declared.status.Status.{Status}
 use Rattle.tty_host.specs.declared.status.Status.TheVariants as status
-use Rattle.tty_host.specs.Told.{Keeps, ended, Goes}
+use Rattle.tty_host.specs.Outputs.{Keeps, status_alone, Goes}
 use Rattle.tty_host.specs.Ends.{code_of, stop_status, WroteAll, Writes}
 
 -- what a read took from the front of what was left
@@ -25,7 +25,7 @@ gave-took (Some bytes) (Some r) into n rest e h =
     record { left = r; is = refl; whole = sym same ∙ h.0; none = λ z. sym same ∙ h.1 z }
 
 -- all that was to come was written
-pub wrote-all : (s : Status) (a b : Option (List ℕ)) (x : Output) → Keeps a x b (ended (code_of s)) → WroteAll s x a b
+pub wrote-all : (s : Status) (a b : Option (List ℕ)) (x : Output) → Keeps a x b (status_alone (code_of s)) → WroteAll s x a b
 wrote-all s a b x h = record {
   appended = subst (λ bs. Appended a b bs) (sym (h.bytes ∙ append-nil h.wrote)) h.appended;
   code = h.status;
@@ -38,6 +38,6 @@ writes-stop Full a b x y h = wrote-all status.Full a b x h
 writes-stop Failed a b x y h = h
 writes-stop NoMemory a b x y h = inr h
 
-pub writes-done : (a b : Option (List ℕ)) (x : Output) → Goes (Ok tt) a x b (ended 0) → WroteAll status.Done x a b
+pub writes-done : (a b : Option (List ℕ)) (x : Output) → Goes (Ok tt) a x b (status_alone 0) → WroteAll status.Done x a b
 unfolding Goes
 writes-done a b x h = wrote-all status.Done a b x h

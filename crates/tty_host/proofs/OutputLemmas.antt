@@ -5,10 +5,10 @@ use Rattle.edge_io.specs.Outside.{Rose, Appended}
 use Rattle.call_words.specs.declared.event.Event.{Event}
 use Rattle.system_model.specs.State.{View}
 use Rattle.script_model.specs.Script.{Output, finds_no_memory, stop_before}
-use Rattle.script_model.specs.Seen.{joined}
+use Rattle.script_model.specs.Seen.{with_line}
 use Rattle.tty_host.specs.declared.run.Stop.{Stop}
 use Rattle.tty_host.specs.declared.run.Stop.TheVariants.{BadLine, Full, Failed, NoMemory}
-use Rattle.tty_host.specs.Told.{Began, Among, Keeps, ended, Goes}
+use Rattle.tty_host.specs.Outputs.{Began, Among, Keeps, status_alone, Goes}
 
 pub appended-none : (a : Option (List ℕ)) → Appended a a []
 appended-none None = tt
@@ -61,8 +61,8 @@ pub began-none : (a : Option (List ℕ)) (bytes : List ℕ) → Began a bytes a
 began-none a bytes = record { wrote = []; left = bytes; appended = appended-none a; whole = refl }
 
 -- a line that was written is no longer to come
-pub keeps-joined : (a b : Option (List ℕ)) (v : View) (e : Event) (line : List ℕ) (more : Output) → Appended a b line → Keeps a (joined v e line more) b more
-keeps-joined a b v e line more h = record {
+pub keeps-line : (a b : Option (List ℕ)) (v : View) (e : Event) (line : List ℕ) (more : Output) → Appended a b line → Keeps a (with_line v e line more) b more
+keeps-line a b v e line more h = record {
   wrote = line;
   appended = h;
   bytes = refl;
@@ -71,15 +71,15 @@ keeps-joined a b v e line more h = record {
 }
 
 -- the last line was written
-pub keeps-last : (a b : Option (List ℕ)) (out : Output) → Appended a b out.bytes → Keeps a out b (ended out.status)
+pub keeps-last : (a b : Option (List ℕ)) (out : Output) → Appended a b out.bytes → Keeps a out b (status_alone out.status)
 keeps-last a b out h = record { wrote = out.bytes; appended = h; bytes = sym (append-nil out.bytes); status = refl; stops = λ front among. absurd among }
 
 -- what holds before a call and what the call keeps
 pub goes-more : (r : Result (Unit {0}) Stop) (a b c : Option (List ℕ)) (x y z : Output) → Keeps a x b y → Goes r b y c z → Goes r a x c z
 unfolding Goes
 goes-more (Ok v) a b c x y z h k = keeps-more a b c x y z h k
-goes-more (Err BadLine) a b c x y z h k = keeps-more a b c x y (ended 2) h k
-goes-more (Err Full) a b c x y z h k = keeps-more a b c x y (ended 6) h k
+goes-more (Err BadLine) a b c x y z h k = keeps-more a b c x y (status_alone 2) h k
+goes-more (Err Full) a b c x y z h k = keeps-more a b c x y (status_alone 6) h k
 goes-more (Err Failed) a b c x y z h k = began-more a b c x y h k
 goes-more (Err NoMemory) a b c x y z h k = record {
   front = h.wrote ++ k.front;
@@ -103,11 +103,11 @@ pub keeps-ok : (u : Unit {0}) (a b : Option (List ℕ)) (x y : Output) → Goes 
 unfolding Goes
 keeps-ok u a b x y h = h
 
-pub goes-full : (a b : Option (List ℕ)) (x y : Output) → Keeps a x b (ended 6) → Goes (Err Full) a x b y
+pub goes-full : (a b : Option (List ℕ)) (x y : Output) → Keeps a x b (status_alone 6) → Goes (Err Full) a x b y
 unfolding Goes
 goes-full a b x y h = h
 
-pub goes-bad : (a b : Option (List ℕ)) (x y : Output) → Keeps a x b (ended 2) → Goes (Err BadLine) a x b y
+pub goes-bad : (a b : Option (List ℕ)) (x y : Output) → Keeps a x b (status_alone 2) → Goes (Err BadLine) a x b y
 unfolding Goes
 goes-bad a b x y h = h
 
@@ -117,7 +117,7 @@ goes-failed a b x y h = h
 
 -- where memory ran out before the event that comes next
 pub goes-memory : (a : Option (List ℕ)) (v : View) (e : Event) (line : List ℕ) (more y : Output) → finds_no_memory v e ≡ true
-    → Goes (Err NoMemory) a (joined v e line more) a y
+    → Goes (Err NoMemory) a (with_line v e line more) a y
 unfolding Goes
 goes-memory a v e line more y wants = record {
   front = [];
@@ -136,8 +136,8 @@ pub keeps-at : (a b : Option (List ℕ)) (x x' y : Output) → x ≡ x' → Keep
 keeps-at a b x x' y e h = rw e h
 
 -- a failed write of a front of what was to come
-pub began-joined : (a b : Option (List ℕ)) (line rest : List ℕ) → Began a line b → Began a (line ++ rest) b
-began-joined a b line rest h = record {
+pub began-line : (a b : Option (List ℕ)) (line rest : List ℕ) → Began a line b → Began a (line ++ rest) b
+began-line a b line rest h = record {
   wrote = h.wrote;
   left = h.left ++ rest;
   appended = h.appended;
