@@ -8,7 +8,7 @@ use Rattle.call_words.specs.declared.call.Call.TheVariants as call
 use Rattle.call_words.specs.declared.event.Event.{Event}
 use Rattle.call_words.specs.declared.event.Event.TheVariants as event
 use Rattle.call_words.specs.declared.event.Reason.TheVariants as reason
-use Rattle.call_words.specs.declared.event.Reply.TheVariants.{Num, Bytes}
+use Rattle.call_words.specs.declared.event.Reply.TheVariants.{Num, Pair, Bytes}
 use Rattle.call_words.specs.declared.event.Decision.{Decision}
 use Rattle.call_words.specs.declared.event.Decision.TheVariants.{Answer}
 use Rattle.proc_table.specs.Processes.{Process, is_stopped, running_at, pending_at}
@@ -25,9 +25,10 @@ use Rattle.system_model.specs.Step.{call_row, run_row, begin_sleeps, gone_row, e
 use Rattle.system_laws.specs.Laws.{asks_call, MayRead, MayWrite, ObeysLabels}
 use Rattle.system_laws.proofs.Revocations.{first-map}
 
--- an answer that only a call's own row gives: bytes, or a number
+-- an answer that only a call's own row gives: bytes, a number, or two
 abbrev pub is_own : Decision → Bool
 is_own (Answer (Num n)) = true
+is_own (Answer (Pair r w)) = true
 is_own (Answer (Bytes bs)) = true
 is_own _ = false
 

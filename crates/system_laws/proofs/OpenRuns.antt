@@ -55,14 +55,14 @@ none-answer : (slot : ℕ) (rest : List Effect) → IsAnswer slot rest → NoOpe
 none-answer slot rest asked_now = no_effect
 none-answer slot rest asked_before = next_effect _ _ refl no_effect
 
-calm-answer : (slot : ℕ) (rest : List Effect) → IsAnswer slot rest → Calm rest
+pub calm-answer : (slot : ℕ) (rest : List Effect) → IsAnswer slot rest → Calm rest
 calm-answer slot rest asked_now = calm_end
 calm-answer slot rest asked_before = calm_next _ _ refl calm_end
 
 -- what calls see of nodes and pipes after effects that end nobody, and are all that their event does but for its answer
-record IsAfter (v : View) (e : Event) (es : List Effect) : Type 0 where
-  tree : (view_after v e).tree ≡ (change_all v es).tree
-  pipes : (view_after v e).pipes ≡ (change_all v es).pipes
+pub record IsAfter (v : View) (e : Event) (es : List Effect) : Type 0 where
+  pub tree : (view_after v e).tree ≡ (change_all v es).tree
+  pub pipes : (view_after v e).pipes ≡ (change_all v es).pipes
 
 answer-tree : (w : View) (slot : ℕ) (rest : List Effect) → IsAnswer slot rest → (change_all w rest).tree ≡ w.tree
 unfolding change_processes
@@ -74,7 +74,7 @@ unfolding change_processes
 answer-pipes w slot rest asked_now = refl
 answer-pipes w slot rest asked_before = refl
 
-after-calm : (v : View) (e : Event) (slot : ℕ) (es rest : List Effect) → v.ending ≡ [] → Calm es → IsAnswer slot rest → done (row v e) ≡ es ++ rest
+pub after-calm : (v : View) (e : Event) (slot : ℕ) (es rest : List Effect) → v.ending ≡ [] → Calm es → IsAnswer slot rest → done (row v e) ≡ es ++ rest
     → IsAfter v e es
 unfolding view_after
 after-calm v e slot es rest nobody calm answered does =

@@ -56,11 +56,11 @@ calm-one n (on_tree e) is = refl
 calm-one n (on_processes e) is = refl
 calm-one n halt is = refl
 
-calm-any : (n : ℕ) (es : List Effect) → Calm es → list_any (is_revoke_of n) es ≡ false
+pub calm-any : (n : ℕ) (es : List Effect) → Calm es → list_any (is_revoke_of n) es ≡ false
 calm-any n [] calm_end = refl
 calm-any n (e ∷ es) (calm_next _ _ is more) = rw (calm-one n e is, calm-any n es more) refl
 
-none-behind : (n : ℕ) (es fs : List Effect) → fs ≡ [] → list_any (is_revoke_of n) es ≡ false → list_any (is_revoke_of n) (es ++ fs) ≡ false
+pub none-behind : (n : ℕ) (es fs : List Effect) → fs ≡ [] → list_any (is_revoke_of n) es ≡ false → list_any (is_revoke_of n) (es ++ fs) ≡ false
 none-behind n [] fs is none = ap (list_any (is_revoke_of n)) is
 none-behind n (e ∷ es) fs is none = by_two (is_revoke_of n e) (list_any (is_revoke_of n) es) none (none-behind n es fs is)
   where
@@ -68,7 +68,7 @@ none-behind n (e ∷ es) fs is none = by_two (is_revoke_of n e) (list_any (is_re
     by_two true b none more = cc
     by_two false b none more = more none
 
-revoking-opens : (s : State) (q : ℕ) (e : Event) (n : ℕ) → Within q s → revokes_line (view s) e n ≡ true → NoOpen (effects_of (view s) e)
+pub revoking-opens : (s : State) (q : ℕ) (e : Event) (n : ℕ) → Within q s → revokes_line (view s) e n ≡ true → NoOpen (effects_of (view s) e)
 unfolding Ordered
 revoking-opens s q e n within is = by_order (ordered_done (row (view s) e) (ordered_row (view s) e))
   where
@@ -114,7 +114,7 @@ dead-seen revokes p line (Some g) f earlier is of_line last =
     let same : seen_file revokes g ≡ f = cc in
     dead-one revokes p line g f same of_line earlier last
 
-seen-at : (s : State) (slot fd : ℕ) → file_at (view s) slot fd ≡ option_map (seen_file s.revokes) (shared.file_at s.parts.descriptors slot fd)
+pub seen-at : (s : State) (slot fd : ℕ) → file_at (view s) slot fd ≡ option_map (seen_file s.revokes) (shared.file_at s.parts.descriptors slot fd)
 unfolding view
 seen-at s slot fd = file_at-map (seen_file s.revokes) s.parts.descriptors slot fd
 
@@ -149,7 +149,7 @@ stepped (d ∷ es) s p (suc n) e at =
     let there : p + 1 + n ≡ p + suc n = omega arith in
     stepped es (step s p d).0 (p + 1) n e at ∙ ap (λ q. (step (state_from (step s p d).0 (p + 1) (take n es)) q e).0) there
 
-after-event : (says : Boot) (es : List Event) (q : ℕ) (e : Event) → slice_get es q ≡ Some e
+pub after-event : (says : Boot) (es : List Event) (q : ℕ) (e : Event) → slice_get es q ≡ Some e
     → state_after says es (q + 1) ≡ (step (state_after says es q) (q + 1) e).0
 after-event says es q e at =
     let next_is : q + 1 ≡ suc q = omega arith in

@@ -18,6 +18,14 @@ use Rattle.system_laws.proofs.Runs.{view-ending, step_within, boot_within}
 use Rattle.system_laws.proofs.SoundEvents.{ends_all}
 use Rattle.system_laws.proofs.Waiting.{waiting}
 use Rattle.system_laws.proofs.Sleepers.{wakes_sleepers}
+use Rattle.system_laws.proofs.OriginRevokes.{have_origins}
+use Rattle.system_laws.proofs.OriginLines.{moves_and_dies}
+use Rattle.system_laws.proofs.ShutLines.{shuts_window}
+use Rattle.system_laws.proofs.PassingLabels.{passes_by_labels}
+use Rattle.system_laws.proofs.ReadAnswers.{reads_cells}
+use Rattle.system_laws.proofs.RisingReads.{reads_rise, reads_well}
+use Rattle.system_laws.proofs.SendAnswers.{sends_cells}
+use Rattle.system_laws.proofs.OrderedTakes.{takes_climb, sent_well, begun_at}
 
 -- what holds of every event in every state holds throughout
 pub throughout : (P : State → ℕ → Event → Type 0) → ((s : State) (p : ℕ) (e : Event) → P s p e) → (s : State) (p : ℕ) (es : List Event) → Throughout P s p es
@@ -47,4 +55,19 @@ obeys says es = record {
   waiting_at_last = waits-last (boot says) 0 es (boot_within says);
   endings = ends_all says es;
   sleepers = wakes_sleepers says es;
+  descriptors = have_origins says es;
+  moves = moves_and_dies says es;
+  window = shuts_window says es;
+  passing = passes_by_labels says es;
+  provenance = record {
+    answers = throughout _ reads_cells (boot says) 1 es;
+    rising = reads_rise says es;
+    brought = λ k n e at. reads_well says es k n e;
+  };
+  sending = record {
+    answers = throughout _ sends_cells (boot says) 1 es;
+    rising = takes_climb says es;
+    put = λ k n e at. sent_well says es k n e;
+    prefix = λ q n. begun_at says es q n;
+  };
 }

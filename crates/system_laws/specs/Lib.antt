@@ -4,3 +4,7 @@ pub mod PendingCalls
 pub mod EndingLists
 pub mod WaitingCalls
 pub mod RunLaws
+pub mod Origins
+pub mod OriginLaws
+pub mod ProvenanceLaws
+pub mod Memory

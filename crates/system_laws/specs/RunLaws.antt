@@ -5,6 +5,8 @@ use Rattle.user_db.specs.declared.boot.Boot.{Boot}
 use Rattle.system_model.specs.State.{State, view, boot}
 use Rattle.system_model.specs.Run.{Throughout, state_from}
 use Rattle.system_laws.specs.Laws.{Refuses, Revokes, MarksRevokes, ObeysLabels, OpensByLabels, AreOpenedWell, Waits, EndsAll, WakesSleepers}
+use Rattle.system_laws.specs.OriginLaws.{HaveOrigins, MovesUnrevoked, ShutsWindow, PassesByLabels}
+use Rattle.system_laws.specs.ProvenanceLaws.{ReadsInOrder, SendsInOrder}
 
 -- the law of who waits, in the state before an event
 abbrev pub WaitsBefore : State → ℕ → Event → Type 0
@@ -31,3 +33,15 @@ pub record ObeysLaws (says : Boot) (es : List Event) : Type 0 where
   pub endings : Throughout EndsAll (boot says) 1 es
   -- who sleeps at a revoke wakes, and is answered as a dead file answers
   pub sleepers : WakesSleepers says es
+  -- what a number of a slot stands for was made by the event at the number's origin, as events, decisions and processes tell it
+  pub descriptors : HaveOrigins says es
+  -- bytes of a line move through a number only while no event revoked the line after the number's origin
+  pub moves : MovesUnrevoked says es
+  -- of a line whose node is shut after a revoke, bytes move only through what the superuser opened since
+  pub window : ShutsWindow says es
+  -- bytes pass only as labels allow: of a pipe the caller's then, of a file and a line those of who opened it, and where the boot says so the caller's too
+  pub passing : PassesByLabels says es
+  -- over all reads of a line the positions of the events that brought the bytes strictly rise, and each byte is of a byte of the line after its last revoke
+  pub provenance : ReadsInOrder says es
+  -- over all takes of a line the positions of the events that put the bytes never fall, and what is taken of one is what it put out, from its first byte on
+  pub sending : SendsInOrder says es
