@@ -6,3 +6,4 @@ mod BootTree
 mod BootLemmas
 mod StepLemmas
 mod WakeLemmas
+pub mod TrailLemmas

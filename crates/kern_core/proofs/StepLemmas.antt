@@ -30,10 +30,10 @@ use Rattle.kern_core.proofs.SlotLemmas.{pending_is, running_is, pid_is}
 pub raised : (t : Tables) (few many : ℕ) → few ≤ many → AreRevokedAtMost few t.pool t.lines → AreRevokedAtMost many t.pool t.lines
 raised t few many more at = record { each = λ n. omega (arith, more, at.each n) }
 
-in-room : (n : ℕ) → n < 262144 → n + 1 ≤ 2 ^ 63 - 1
+in-room : (n : ℕ) → n < 2147483648 → n + 1 ≤ 2 ^ 63 - 1
 in-room n few = omega (arith, few)
 
-pids-room : (n pid : ℕ) → n < 262144 → pid ≤ n + 2 → pid + 1 < 2 ^ 32
+pids-room : (n pid : ℕ) → n < 2147483648 → pid ≤ n + 2 → pid + 1 < 2 ^ 32
 pids-room n pid few most = omega (arith, few, most)
 
 pub has_room : (t : Tables) → HasEventLeft t → HasRoom t

@@ -1,13 +1,9 @@
 -- What bounds the numbers of a kernel: how often lines were revoked, and the next pid. No run has more events than these bear.
-use Rattle.std.specs.Prelude.{◌≡◌, ℕ, ◌+◌, ◌-◌, ◌^◌, ◌<◌, ◌≤◌, length, Option, Some, None}
-use Rattle.std.proofs.Props.{props}
-use Rattle.sys_types.specs.declared.limits.TheConstants.{TRAIL_EVENTS}
-use Rattle.call_words.specs.declared.call.Call.{Call}
-use Rattle.call_words.specs.declared.call.Call.TheVariants as call
-use Rattle.call_words.specs.Calls.{HasFitMode}
+use Rattle.std.specs.Prelude.{◌≡◌, ℕ, ◌+◌, ◌-◌, ◌^◌, ◌<◌, ◌≤◌, length}
+use Rattle.trail_core.specs.declared.machine.TheConstants.{MOST_EVENTS}
 use Rattle.system_model.specs.Fit.{AreRevokedAtMost}
 use Rattle.system_model.specs.Tables.{Tables}
-use Rattle.system_laws.specs.PendingCalls.{IsFitCall, AreFitCalls}
+use Rattle.system_laws.specs.PendingCalls.{AreFitCalls}
 
 -- no bound on the revokes of lines rises
 abbrev pub RevokesNone : Tables → Tables → Type 0
@@ -30,26 +26,8 @@ pub record IsAfter (n : ℕ) (t : Tables) : Type 0 where
   pub calls : AreFitCalls t.processes
   pub ending : length t.ending ≡ 0
 
--- one event more may come in a run of at most 262,144
+-- one event more may come: a trail has at most 2,147,483,648
 pub record HasEventLeft (t : Tables) : Type 0 where
   pub most : ℕ
   pub after : IsAfter most t
-  pub left : most < TRAIL_EVENTS
-
--- ---- IsAfter is a proposition, so that a run may keep it
-
-mode-prop : (c : Call) → IsProp (HasFitMode c)
-mode-prop (call.Open path access flags mode) = hlevel props
-mode-prop (call.Mkdir path mode) = hlevel props
-mode-prop (call.Chmod path mode) = hlevel props
-mode-prop (call.Umask mode) = hlevel props
-mode-prop other = hlevel props
-
-call-prop : (o : Option Call) → IsProp (IsFitCall o)
-call-prop None = hlevel props
-call-prop (Some c) = mode-prop c
-
-ruleset fit_props = (props, call-prop)
-
-pub is_after_prop : (n : ℕ) (t : Tables) → IsProp (IsAfter n t)
-is_after_prop n t = hlevel fit_props
+  pub left : most < MOST_EVENTS

@@ -1,4 +1,4 @@
-//! The kernel at boot.
+//! The system at boot.
 ghost use Rattle.std.specs.Prelude.{◌≡◌, IfOk};
 ghost use Rattle.user_db.specs.Boot.{IsBoot};
 ghost use Rattle.system_model.specs.State.{boot};
@@ -6,7 +6,7 @@ ghost use Rattle.system_model.specs.Tables.{view_of};
 ghost use Rattle.system_laws.specs.Stands.{Stands};
 ghost use Rattle.kern_core.specs.Bounds.{IsAfter};
 
-use crate::kernel::Kernel;
+use crate::system::System;
 use block_pool::Pool;
 use fd_table::FdTable;
 use pipe_core::Pipes;
@@ -17,21 +17,21 @@ use tty_dev::table::lines_at_boot;
 use user_db::Boot;
 use vnode_tree::{NoMemory, Tree};
 
-impl Kernel {
-    /// The kernel as it stands at boot: the tree that the boot makes, pid 1 in slot 0, and nothing open. All memory is taken here but that of
+impl System {
+    /// The system as it stands at boot: the tree that the boot makes, pid 1 in slot 0, and nothing open. All memory is taken here but that of
     /// what files hold; `NoMemory`, where it runs out, is the only error.
     ///
     /// The boot is one that some boot text gives.
-    pub fn boot(alloc: Global, says: &Boot) -> Result<Self, NoMemory>
+    pub(crate) fn boot(alloc: Global, says: &Boot) -> Result<Self, NoMemory>
         requires { IsBoot says.now }
-        ensures stands { IfOk result (λ kernel. Stands (view_of kernel) 0 (boot says.now)) }
-        ensures after { IfOk result (λ kernel. IsAfter 0 kernel) }
+        ensures stands { IfOk result (λ system. Stands (view_of system) 0 (boot says.now)) }
+        ensures after { IfOk result (λ system. IsAfter 0 system) }
     {
         let tree = Tree::new(alloc, says)?;
         let fds = FdTable::new(alloc)?;
         let procs = ProcTable::new(alloc)?;
         let pool = Pool::new(alloc, POOL_BLOCKS)?;
-        Ok(Kernel {
+        Ok(System {
             tree,
             fds,
             pipes: Pipes::new(),

@@ -8,11 +8,11 @@ ghost use Rattle.system_model.specs.Tables.{view_of};
 ghost use Rattle.kern_core.specs.Bounds.{RevokesOnce, HasRoom};
 ghost use Rattle.system_model.specs.Memory.{wants_memory};
 
-use crate::kernel::Kernel;
+use crate::system::System;
 use call_words::{Call, Decision};
 use vnode_tree::NoMemory;
 
-impl Kernel {
+impl System {
     /// A call of a process that is not stopped.
     #[tactic(auto, using(crate::proofs::BoundLemmas::none_once))]
     pub(crate) fn do_call(&mut self, slot: u8, call: &Call) -> Result<Decision, NoMemory>

@@ -7,10 +7,10 @@ ghost use Rattle.system_model.specs.Fit.{AreRevokedAtMost};
 ghost use Rattle.system_model.specs.Tables.{view_of};
 ghost use Rattle.kern_core.specs.Bounds.{RevokesNone};
 
-use crate::kernel::Kernel;
+use crate::system::System;
 use proc_calls::work_endings;
 
-impl Kernel {
+impl System {
     /// Ends those whom an event ends, and those whom that ends; each of them runs.
     pub(crate) fn work_endings(&mut self)
         requires running { AreRunning self.old.processes self.old.ending }

@@ -12,13 +12,13 @@ ghost use Rattle.kern_core.specs.Bounds.{RevokesNone, RevokesOnce, HasRoom};
 ghost use Rattle.system_model.specs.Memory.{wants_memory, pending_wants};
 ghost use Rattle.system_laws.specs.PendingCalls.{IsFitCall};
 
-use crate::kernel::Kernel;
 use crate::pending::is_sleep;
+use crate::system::System;
 use call_words::{Call, Decision, Reason, Reply, Rule};
 use system_model::caller;
 use vnode_tree::NoMemory;
 
-impl Kernel {
+impl System {
     /// A call of a process, which sleeps while it is stopped.
     fn run(&mut self, slot: u8, call: &Call) -> Result<Decision, NoMemory>
         requires caller { IsCaller self.old.processes slot }

@@ -10,14 +10,14 @@ ghost use Rattle.system_model.specs.Memory.{is_regular};
 ghost use Rattle.system_model.specs.Tables.{view_of};
 ghost use Rattle.kern_core.specs.Bounds.{RevokesNone};
 
-use crate::kernel::Kernel;
+use crate::system::System;
 use call_words::{Access, Decision, OpenFlags, PathText};
 use io_calls::{do_close, do_dup, do_dup2, do_pipe, do_read, do_write};
 use open_calls::do_open;
 use sys_types::Piece;
 use vnode_tree::NoMemory;
 
-impl Kernel {
+impl System {
     /// open(2).
     pub(crate) fn open(
         &mut self,

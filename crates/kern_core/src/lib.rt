@@ -1,4 +1,4 @@
-//! The kernel: all tables, which fit together, and one step of it for each event.
+//! The kernel: all tables, which fit together, one step of them for each event, and the machine of which a trail is kept.
 //!
 //! Each call goes to the method of its name, and that to the call's function over the tables that it touches (open_calls, io_calls,
 //! node_calls, proc_calls, tty_calls). Here stands what all calls have in common: what comes before their rows, calls that wait, what ends
@@ -16,8 +16,9 @@ mod nodes;
 mod pending;
 mod procs;
 mod step;
+mod system;
 mod ttys;
 mod wakeups;
 
-pub use kernel::Kernel;
+pub use kernel::{Kernel, boot_trail};
 pub use vnode_tree::NoMemory;

@@ -6,11 +6,11 @@ ghost use Rattle.system_model.specs.Rows.{Does};
 ghost use Rattle.system_model.specs.Tables.{view_of};
 ghost use Rattle.kern_core.specs.Bounds.{RevokesNone};
 
-use crate::kernel::Kernel;
+use crate::system::System;
 use call_words::Decision;
 use tty_calls::{do_byte, do_carrier, do_end, do_take};
 
-impl Kernel {
+impl System {
     /// A byte comes in.
     pub(crate) fn byte(&mut self, line: u8, byte: u8) -> Decision
         requires { line < LINES }

@@ -8,7 +8,7 @@ ghost use Rattle.system_model.specs.Rows.{Does};
 ghost use Rattle.system_model.specs.Tables.{view_of};
 ghost use Rattle.kern_core.specs.Bounds.{RevokesNone, RevokesOnce};
 
-use crate::kernel::Kernel;
+use crate::system::System;
 use call_words::{Decision, Entries, PathText, WhichList};
 use label_core::Element;
 use node_calls::{
@@ -16,7 +16,7 @@ use node_calls::{
     do_rmdir, do_setacl, do_setlabel, do_unlink,
 };
 
-impl Kernel {
+impl System {
     /// chdir(2).
     pub(crate) fn chdir(&mut self, slot: u8, path: &PathText) -> Decision
         requires caller { IsCaller self.old.processes slot }

@@ -9,7 +9,7 @@ ghost use Rattle.system_model.specs.Tables.{view_of};
 ghost use Rattle.kern_core.specs.Bounds.{RevokesNone};
 ghost use Rattle.kern_core.specs.Pending.{is_sleep};
 
-use crate::kernel::Kernel;
+use crate::system::System;
 use call_words::{Call, Decision};
 
 /// Whether a decision is a sleep.
@@ -29,7 +29,7 @@ fn is_begin(call: Option<&Call>) -> bool
     }
 }
 
-impl Kernel {
+impl System {
     /// Whether a slot waits in `begin`.
     pub(crate) fn waits_to_begin(&self, slot: u8) -> bool
         ensures { result ≡ is_begin_pending (pending_at (view_of self.now).processes slot) }

@@ -10,7 +10,7 @@ ghost use Rattle.proc_calls.specs.Halting.{halted_after};
 ghost use Rattle.system_model.specs.Tables.{view_of};
 ghost use Rattle.kern_core.specs.Bounds.{RevokesNone};
 
-use crate::kernel::Kernel;
+use crate::system::System;
 use acl_core::Cred;
 use call_words::{Action, Decision, PathText, Reply, To, WaitFlags};
 use label_core::Subject;
@@ -20,7 +20,7 @@ use proc_calls::{
 };
 use sys_types::{Piece, Sig};
 
-impl Kernel {
+impl System {
     /// getpid(2) and its like.
     pub(crate) fn ident(&self, slot: u8) -> Decision
         requires { IsCaller self.now.processes slot }

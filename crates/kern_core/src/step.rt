@@ -1,4 +1,4 @@
-//! One step of the kernel.
+//! One step of the system.
 ghost use Rattle.std.specs.Prelude.{◌≡◌, true, None, IfOk, OnOk, OnErr, ℕ, ◌+◌};
 ghost use Rattle.call_words.specs.Events.{MayBeUsed, wake_list};
 ghost use Rattle.system_model.specs.Rows.{Does, first};
@@ -10,11 +10,11 @@ ghost use Rattle.system_model.specs.Memory.{may_want_memory};
 ghost use Rattle.system_laws.specs.PendingCalls.{AreFitCalls};
 ghost use Rattle.system_laws.specs.Stands.{Stands};
 
-use crate::kernel::Kernel;
+use crate::system::System;
 use call_words::{Decision, Event, Reply, Wakes};
 use vnode_tree::NoMemory;
 
-impl Kernel {
+impl System {
     /// An event of a system that is not halted, by what it is.
     #[tactic(auto, using(crate::proofs::BoundLemmas::none_once))]
     fn dispatch(&mut self, event: &Event) -> Result<Decision, NoMemory>
@@ -56,12 +56,12 @@ impl Kernel {
         self.dispatch(event)
     }
 
-    /// One step: what the kernel makes of an event, with all that it ends, what it answers, and who can go on then.
+    /// One step: what the system makes of an event, with all that it ends, what it answers, and who can go on then.
     ///
-    /// Whatever state of the machine the kernel stood for, the answer is the machine's there, and then it stands for the machine's next
+    /// Whatever state of the machine the system stood for, the answer is the machine's there, and then it stands for the machine's next
     /// state. `NoMemory`, where memory runs out, is the only error, and comes only at a write to a regular file of which no check holds; then
-    /// nothing has changed. A run has at most 262,144 events.
-    pub fn step(&mut self, event: &Event, list: &mut Wakes) -> Result<Decision, NoMemory>
+    /// nothing has changed. A trail has at most 2,147,483,648 events.
+    pub(crate) fn step(&mut self, event: &Event, list: &mut Wakes) -> Result<Decision, NoMemory>
         requires used { MayBeUsed event.now }
         requires left { HasEventLeft self.old }
         // By what calls see.
@@ -72,7 +72,7 @@ impl Kernel {
         ensures stands { IfOk result (λ decision. (n : ℕ) (s : State) → Stands (view_of self.old) n s →
             Stands (view_of self.new) (n + 1) (step s (n + 1) event.now).0 × (decision ≡ (step s (n + 1) event.now).1)) }
         ensures after { OnOk result ((n : ℕ) → IsAfter n self.old → IsAfter (n + 1) self.new) }
-        ensures nothing { OnErr result (self.new ≡ self.old) }
+        ensures nothing { OnErr result ((self.new ≡ self.old) × (list.new ≡ list.old)) }
         ensures memory { OnErr result (may_want_memory (view_of self.old) event.now ≡ true) }
         ensures free { OnErr result (first (row (view_of self.old) event.now).checks ≡ None) }
     {

@@ -5,7 +5,7 @@ ghost use Rattle.system_model.specs.Rows.{Does};
 ghost use Rattle.system_model.specs.Tables.{view_of};
 ghost use Rattle.kern_core.specs.Bounds.{RevokesNone, RevokesOnce};
 
-use crate::kernel::Kernel;
+use crate::system::System;
 use call_words::{Decision, When, WhichQueue};
 use termios_core::Termios;
 use tty_calls::{
@@ -13,7 +13,7 @@ use tty_calls::{
     do_tcsetpgrp,
 };
 
-impl Kernel {
+impl System {
     /// tcsetsid(3).
     pub(crate) fn setctty(&mut self, slot: u8, fd: u8) -> Decision
         requires caller { IsCaller self.old.processes slot }

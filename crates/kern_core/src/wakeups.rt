@@ -13,7 +13,7 @@ ghost use Rattle.system_model.specs.Step.{call_row, run_row, again_row, reason_o
 ghost use Rattle.system_model.specs.Tables.{view_of};
 ghost use Rattle.system_model.specs.Verdicts.{check_of};
 
-use crate::kernel::Kernel;
+use crate::system::System;
 use arrayvec::ArrayVec;
 use call_words::{Access, Call, OpenFlags, PathText, Reason, Wakes};
 use io_calls::{read_verdict, write_verdict};
@@ -24,7 +24,7 @@ use system_model::{Verdict, caller};
 use tty_calls::drain_verdict;
 use tty_dev::table::is_takeable;
 
-impl Kernel {
+impl System {
     /// What a read of a number comes to.
     fn read_verdict(&self, slot: u8, fd: u8, max: u16) -> Verdict
         requires { IsCaller self.now.processes slot }
@@ -124,7 +124,7 @@ impl Kernel {
     }
 
     /// What the pending call of a slot waits for, where another try would leave it asleep and change nothing.
-    pub fn waits(&self, slot: u8) -> Option<Reason>
+    pub(crate) fn waits(&self, slot: u8) -> Option<Reason>
         requires { slot < SLOTS }
         ensures { result ≡ waits (view_of self.now) slot }
     {

@@ -1,23 +1,18 @@
 -- What a script writes, and the status with which it ends.
-use Rattle.std.specs.Prelude.{ℕ, ◌+◌, Bool, ◌&&◌, is_none, List, [], ◌∷◌, ◌++◌, Option, Some, None, Result, Ok, Err, nat_lt, if◌then◌else◌, length, map, take}
+use Rattle.std.specs.Prelude.{ℕ, ◌+◌, List, [], ◌∷◌, ◌++◌, Option, Some, None, Result, Ok, Err, nat_lt, if◌then◌else◌, length, map, take}
 use Rattle.std.specs.Prelude.{codes}
 use Rattle.std.specs.Fmt.{decimal}
 use Rattle.sys_types.specs.declared.limits.TheConstants.{TRAIL_EVENTS}
 use Rattle.call_words.specs.declared.event.Event.{Event}
 use Rattle.system_model.specs.State.{State, View, view, boot}
-use Rattle.system_model.specs.Rows.{first}
-use Rattle.system_model.specs.Step.{row, step, wakes}
-use Rattle.system_model.specs.Memory.{may_want_memory}
+use Rattle.system_model.specs.Step.{step, wakes}
+use Rattle.system_laws.specs.Memory.{finds_no_memory}
 use Rattle.script_model.specs.Reading.{ScriptEvents, reads}
 use Rattle.script_text.specs.Answers.{answer_line}
 use Rattle.user_db.specs.declared.boot.Boot.{Boot}
 use Rattle.user_db.specs.Boot.{boot_of}
 
--- Memory may run out right before an event that may want it and of which no check of the row holds: a write to a regular file that
--- nothing denies or puts to sleep.
-abbrev pub finds_no_memory : View → Event → Bool
-finds_no_memory v e = may_want_memory v e && is_none (first (row v e).checks)
-
+-- nothing is written of an event before which memory runs out
 abbrev pub stop_before : View → Event → List (List ℕ)
 stop_before v e = if finds_no_memory v e then [] ∷ [] else []
 

@@ -32,6 +32,8 @@ pub trait Machine: Drop {
     ghost may_ask: { Self.Event → Type 0 };
     /// Which events never want memory.
     ghost needs_no_memory: { Self.Event → Type 0 };
+    /// Whether memory may run out at the next event after a list.
+    ghost may_run_out: { Self.Root → List Self.Event → Self.Event → Type 0 };
     /// The decision of the next event after a list.
     ghost decision: { Self.Root → List Self.Event → Self.Event → Self.Decision };
     /// The wakeup list of that event.
@@ -44,8 +46,8 @@ pub trait Machine: Drop {
     /// Takes the next event: decides it, and writes its wakeup list to `wakes`.
     ///
     /// The event may be asked. `pos` is its position in the trail, counted from 1: one more than
-    /// the number of events so far, and at most 2,147,483,648. The one error is `NoMemory`, never
-    /// for an event that needs no memory, and it changes nothing.
+    /// the number of events so far, and at most 2,147,483,648. The one error is `NoMemory`, only
+    /// where memory may run out and never for an event that needs none, and it changes nothing.
     fn step(
         &mut self,
         pos: u32,
@@ -63,6 +65,9 @@ pub trait Machine: Drop {
             OnOk result (wakes.new ≡ wakeups (root self.old) events event.now) }
         ensures stands { (events : List Self.Event) → stands self.old events → pos ≡ length events + 1 →
             OnOk result (stands self.new (events ++ event.now ∷ [])) }
+
+        ensures wants { (events : List Self.Event) → stands self.old events → pos ≡ length events + 1 →
+            OnErr result (may_run_out (root self.old) events event.now) }
 
         ensures root { root self.new ≡ root self.old }
         ensures memory { needs_no_memory event.now → IsOk result }

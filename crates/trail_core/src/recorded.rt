@@ -97,7 +97,8 @@ impl<M: Machine> Recorded<M> {
     /// wakeup list to `wakes`.
     ///
     /// A refusal changes nothing and hands the event back: `Full` exactly where the trail is at its
-    /// limit, and else `NoMemory`, never for an event that needs no memory.
+    /// limit, and else `NoMemory`, only where memory may run out and never for an event that needs
+    /// none.
     pub fn apply(
         &mut self,
         event: M::Event,
@@ -110,6 +111,7 @@ impl<M: Machine> Recorded<M> {
 
         ensures full { (result ≡ Err (Refused.Full event)) ↔ (length self.old.events ≡ self.old.most) }
         ensures memory { M.needs_no_memory event → IfErr result (λ refused. refused ≡ Refused.Full event) }
+        ensures wants { result ≡ Err (Refused.NoMemory event) → M.may_run_out self.old.root self.old.events event }
         ensures event { IfErr result (λ refused. event_of refused ≡ event) }
         ensures nothing { OnErr result ((self.new ≡ self.old) × (wakes.new ≡ wakes.old)) }
     {

@@ -65,6 +65,8 @@ impl Machine for Tally {
 
     ghost needs_no_memory = { λ _. Unit {0} };
 
+    ghost may_run_out = { λ _ _ _. ⊥ };
+
     ghost decision = { λ _ events event. decision_at (sum_of events) event };
 
     ghost wakeups = { λ _ _ _. tt };
