@@ -26,7 +26,7 @@ fn main(rt: HostRuntime) -> ExitCode {
             let mut boot = FileSource::new(&rt, words[named].as_str());
             plain_top(rt.alloc(), &words, &mut boot, &mut src, &mut out)
         }
-        Choice::Script { boot: None } | Choice::Usage => {
+        Choice::Script { boot: None } | Choice::Load { .. } | Choice::Usage => {
             let mut boot = MemSource::new(Vec::new(rt.alloc()), Vec::new(rt.alloc()));
             plain_top(rt.alloc(), &words, &mut boot, &mut src, &mut out)
         }

@@ -38,13 +38,13 @@ no_plus radix (b ∷ ds) h =
     λ e. omega (arith, e, range.0)
 
 -- what reading gives of digits
-pub parse-digits : {E : Type 0} (radix : ℕ) (ds : List ℕ) (r : Result ℕ E) → radix ≤ 10 → ParsesUnsigned 32 radix ds r → list_all (is_digit radix) ds ≡ true
-    → 0 < length ds → SomeIff (result_ok r) (digits_value radix ds < 2 ^ 32) (digits_value radix ds)
-parse-digits radix ds (Ok n) ten h all some =
+pub parse-digits : {E : Type 0} (bits radix : ℕ) (ds : List ℕ) (r : Result ℕ E) → radix ≤ 10 → ParsesUnsigned bits radix ds r → list_all (is_digit radix) ds ≡ true
+    → 0 < length ds → SomeIff (result_ok r) (digits_value radix ds < 2 ^ bits) (digits_value radix ds)
+parse-digits bits radix ds (Ok n) ten h all some =
     let plain = without_leading_plus_none ds (no_plus radix ds all) in
     let gives = rw plain at h in
     (gives.0.1, gives.1)
-parse-digits radix ds (Err e) ten h all some =
+parse-digits bits radix ds (Err e) ten h all some =
     let plain = without_leading_plus_none ds (no_plus radix ds all) in
     let none = rw plain at h in
     λ small. none ((some, all_digits radix radix ds ten (omega arith) all), small)

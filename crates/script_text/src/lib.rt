@@ -31,5 +31,6 @@ pub use event_lines::{EventLine, print_event};
 pub use event_load::Load;
 pub use events::Events;
 pub use laws::{events_are_read_back, one_grammar, paths_are_read_as_spelled, words_are_read_back};
+pub use numbers::{DECIMAL, read_number, read_u64};
 pub use print::{ANSWER_BYTES, AnswerLine, print_answer};
 pub use read::read_event_line;

@@ -78,6 +78,29 @@ pub fn read_u32(word: &[u8]) -> Option<u32>
     read_digits(word, DECIMAL)
 }
 
+/// The number that decimal digits write, where it is below 2^64.
+fn read_long_digits(digits: &[u8]) -> Option<u64>
+    requires some { 0 < length digits.now }
+    requires digits { IsTrue (list_all (is_digit 10) digits.now) }
+    ensures { SomeIff result (digits_value 10 digits.now < 2 ^ 64) (digits_value 10 digits.now) }
+{
+    match str::from_utf8(digits) {
+        Ok(text) => u64::from_str_radix(text, 10).ok(),
+        Err(_) => None,
+    }
+}
+
+/// The number of 64 bits that a word writes in decimal, without a sign or a leading zero.
+#[tactic(auto, unfolding(crate::specs::Words::number_below))]
+pub fn read_u64(word: &[u8]) -> Option<u64>
+    ensures { result ≡ number_below 10 (2 ^ 64) word.now }
+{
+    if !is_number(word, DECIMAL) {
+        return None;
+    }
+    read_long_digits(word)
+}
+
 /// The bytes that pairs of hex digits write, in either case. `room` has a place for each.
 fn read_pairs(digits: &[u8], room: &mut [u8]) -> Option<Piece>
     requires places { length room.old ≡ length digits.now / 2 }

@@ -4,3 +4,5 @@ pub mod LinesCome
 pub mod SourceLemmas
 pub mod TopLemmas
 pub mod BootTextLemmas
+mod TrailEvents
+mod LoadLemmas

@@ -10,7 +10,8 @@ use Rattle.system_model.specs.State.{View}
 use Rattle.system_model.specs.Step.{view_after, answer_to, wakes}
 use Rattle.script_model.specs.Reading.{ScriptEvents}
 use Rattle.script_text.specs.Answers.{answer_line}
-use Rattle.script_model.specs.Script.{Output, finds_no_memory, full_end}
+use Rattle.script_model.specs.Script.{Output, full_end}
+use Rattle.system_laws.specs.Memory.{finds_no_memory}
 use Rattle.script_model.specs.Seen.{out_seen, with_line}
 use Rattle.script_model.proofs.SeenRuns.{out_seen-full, out_seen-event}
 use Rattle.tty_host.specs.declared.run.Stop.{Stop}
@@ -21,7 +22,7 @@ use Rattle.tty_host.proofs.OutputLemmas.{keeps-more, goes-more, keeps-line, keep
 abbrev pub script_of : List Event → Option ℕ → ScriptEvents
 script_of es bad = record { events = es; bad = bad }
 
-full : (v : View) (room : ℕ) (e : Event) (es : List Event) (bad : Option ℕ) → room ≡ 0 → out_seen v room (script_of (e ∷ es) bad) ≡ full_end
+pub full : (v : View) (room : ℕ) (e : Event) (es : List Event) (bad : Option ℕ) → room ≡ 0 → out_seen v room (script_of (e ∷ es) bad) ≡ full_end
 full v room e es bad none = rw none (out_seen-full v e es bad)
 
 -- where there is no room, the last line was written

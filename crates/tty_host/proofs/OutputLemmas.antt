@@ -4,7 +4,8 @@ use Rattle.std.specs.Prelude.{if◌then◌else◌, true}
 use Rattle.edge_io.specs.Outside.{Rose, Appended}
 use Rattle.call_words.specs.declared.event.Event.{Event}
 use Rattle.system_model.specs.State.{View}
-use Rattle.script_model.specs.Script.{Output, finds_no_memory, stop_before}
+use Rattle.script_model.specs.Script.{Output, stop_before}
+use Rattle.system_laws.specs.Memory.{finds_no_memory}
 use Rattle.script_model.specs.Seen.{with_line}
 use Rattle.tty_host.specs.declared.run.Stop.{Stop}
 use Rattle.tty_host.specs.declared.run.Stop.TheVariants.{BadLine, Full, Failed, NoMemory}

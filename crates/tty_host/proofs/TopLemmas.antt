@@ -1,8 +1,6 @@
 -- From a run of what calls see to the promise of the top call.
 use Rattle.std.proofs.Common.{◌≡◌, ℕ, ◌⊎◌, inl, inr, List, [], length, ◌≤◌, Some, None, Option, Ok, Err, Result, refl, sym, ap, arith, le-ltb}
 use Rattle.std.specs.Prelude.{IsOk, IsErr}
-use Rattle.system_model.specs.State.{boot, view}
-use Rattle.system_model.specs.Tables.{view_of}
 use Rattle.script_model.specs.Reading.{reads}
 use Rattle.user_db.specs.declared.boot.Boot.{Boot}
 use Rattle.user_db.specs.Boot.{boot_of}
@@ -18,9 +16,9 @@ use Rattle.tty_host.specs.Ends.{IsScriptStatus, Writes}
 use Rattle.tty_host.specs.Tops.{IsValid, RanScript}
 
 -- a new run is to write all of the machine's output
-pub start-come : (says : Boot) (run : Run) (text : List ℕ) → view_of run.kernel ≡ view (boot says) → run.room ≡ 262144 → run.number ≡ 1 → run.line.items ≡ []
+pub start-come : (says : Boot) (run : Run) (text : List ℕ) → run.trail.root ≡ says → run.trail.events ≡ [] → run.number ≡ 1 → run.line.items ≡ []
     → to_come run text ≡ run_out says (reads text)
-start-come says run text kernel room number line = rw (kernel, room, number, line) (sym (run_out-seen says (reads text)))
+start-come says run text root events number line = rw (root, events, number, line) (sym (run_out-seen says (reads text)))
 
 -- over a boot text without a bad line that is the output of the script
 pub good-boot : (boot_text text : List ℕ) (b : Boot) → boot_of boot_text ≡ Ok b → script_out boot_text text ≡ run_out b (reads text)

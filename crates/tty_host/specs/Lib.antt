@@ -5,3 +5,4 @@ pub mod Come
 pub mod Uses
 pub mod Boots
 pub mod Tops
+pub mod Loads

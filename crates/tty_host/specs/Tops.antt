@@ -1,5 +1,5 @@
 -- What the top calls promise.
-use Rattle.std.specs.Prelude.{◌≡◌, ℕ, ◌≤◌, ◌⊎◌, List, [], ◌∷◌, length, Some, None, Ok, IsOk, IsErr, if◌then◌else◌, codes}
+use Rattle.std.specs.Prelude.{◌≡◌, ℕ, ◌≤◌, ◌⊎◌, List, [], ◌∷◌, ◌+◌, ◌^◌, length, Option, Some, None, Ok, IsOk, IsErr, if◌then◌else◌, codes}
 use Rattle.std.specs.Str.{bytes_eq}
 use Rattle.sys_types.specs.declared.limits.TheConstants.{TRAIL_EVENTS}
 use Rattle.edge_io.specs.Outside.{Appended}
@@ -8,7 +8,9 @@ use Rattle.user_db.specs.declared.boot.Boot.{Boot}
 use Rattle.user_db.specs.Boot.{boot_of}
 use Rattle.script_model.specs.Script.{script_out}
 use Rattle.system_laws.specs.RunLaws.{ObeysLaws}
-use Rattle.tty_host.specs.Uses.{SourceUse, SinkUse, SourceFailed, SinkFailed, IsUnread}
+use Rattle.script_text.specs.Words.{number_below}
+use Rattle.script_model.specs.Load.{LOAD_EVENTS}
+use Rattle.tty_host.specs.Uses.{SourceUse, SinkUse, SourceFailed, SinkFailed, IsUnread, Unwritten}
 use Rattle.tty_host.specs.Outputs.{Began}
 use Rattle.tty_host.specs.Ends.{IsScriptStatus, Writes}
 use Rattle.tty_host.specs.declared.choice.Choice.{Choice}
@@ -38,9 +40,9 @@ pub record RanScript (status : Status) (boot src : SourceUse) (out : SinkUse) : 
   pub others : IsScriptStatus status
   -- the boot text is read before the script, which is not read where that has a bad line
   pub unread : (boot_text : List ℕ) → boot.left ≡ Some boot_text → IsErr (boot_of boot_text) → IsUnread src
-  -- In the run of the script each denial names the first rule that holds, and each sleep its reason; no byte moves through a file of a
-  -- line that was opened before the line's last revoke; labels allow each open, and each read and write that looks at them; and a slot
-  -- waits just where another try of its call would sleep and change nothing.
+  -- In the run of the script each denial names the first rule that holds, and each sleep its reason; through no number do bytes of a line
+  -- move after a revoke that came after the number's origin, and no read gives a byte from before the line's last revoke; labels allow each
+  -- open, and each read and write that looks at them; and a slot waits just where another try of its call would sleep and change nothing.
   pub lawful : (boot_text text : List ℕ) (says : Boot) → boot.left ≡ Some boot_text → src.left ≡ Some text → boot_of boot_text ≡ Ok says
       → ObeysLaws says (reads text).events
 
@@ -58,9 +60,36 @@ WroteUsage Memory out = ⊥
 WroteUsage Full out = ⊥
 WroteUsage NoWorker out = ⊥
 
--- the command that words choose: `script` is built, with the index of its second word if it has one
+-- The summary of a load was written, or after a fault the front of it, or where memory ran out nothing.
+abbrev pub WroteLoad : Status → List ℕ → SinkUse → Type 0
+WroteLoad Done bytes out = Appended out.before out.after bytes
+WroteLoad Usage bytes out = ⊥
+WroteLoad Input bytes out = ⊥
+WroteLoad ReadFault bytes out = ⊥
+WroteLoad WriteFault bytes out = SinkFailed out × Began out.before bytes out.after
+WroteLoad Memory bytes out = Unwritten out
+WroteLoad Full bytes out = ⊥
+WroteLoad NoWorker bytes out = ⊥
+
+abbrev pub load_choice : Option ℕ → Option ℕ → Choice
+load_choice None start = choice.Usage
+load_choice (Some n) None = choice.Usage
+load_choice (Some n) (Some start) = choice.Load n start
+
+-- the load of at most 262,140 drawn events from a number of 64 bits, both in decimal
+abbrev pub load_of : List ℕ → List ℕ → Choice
+load_of n start = load_choice (number_below 10 (LOAD_EVENTS + 1) n) (number_below 10 (2 ^ 64) start)
+
+-- the command that words choose: `script`, with the index of its second word if it has one, or `load` with its two numbers
 abbrev pub choice_of : List (List ℕ) → Choice
 choice_of [] = choice.Usage
 choice_of (w ∷ []) = if bytes_eq w (codes "script") then choice.Script None else choice.Usage
 choice_of (w ∷ boot ∷ []) = if bytes_eq w (codes "script") then choice.Script (Some 1) else choice.Usage
-choice_of (w ∷ boot ∷ another ∷ more) = choice.Usage
+choice_of (w ∷ n ∷ start ∷ []) = if bytes_eq w (codes "load") then load_of n start else choice.Usage
+choice_of (w ∷ n ∷ start ∷ another ∷ more) = choice.Usage
+
+-- the commands that read neither a boot text nor a source
+abbrev pub ReadsNothing : Choice → Type 0
+ReadsNothing (choice.Script boot) = ⊥
+ReadsNothing (choice.Load n start) = Unit {0}
+ReadsNothing choice.Usage = Unit {0}

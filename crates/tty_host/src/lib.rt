@@ -3,10 +3,12 @@
 //! A script is read in bounded pieces, a line at a time, and each event's answer is written
 //! before the next byte is looked at, so a run needs the same memory for a text of any length.
 //! The boot text that comes before it is held whole, as far as it is no longer than any can be.
+//! Each command runs the kernel with a trail of at most 262,144 events.
 #![tactic(auto)]
 
 mod boot;
 mod choice;
+mod load;
 mod print;
 mod run;
 mod status;
@@ -14,4 +16,4 @@ mod top;
 
 pub use choice::{Choice, choose};
 pub use status::Status;
-pub use top::{plain_top, script_top};
+pub use top::{load_top, plain_top, script_top};

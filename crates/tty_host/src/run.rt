@@ -5,23 +5,21 @@ ghost use Rattle.edge_io.specs.Outside.{Rose, Appended};
 ghost use Rattle.call_words.specs.declared.event.Event.{Event};
 ghost use Rattle.user_db.specs.Boot.{IsBoot};
 ghost use Rattle.call_words.specs.Events.{MayBeUsed};
-ghost use Rattle.system_model.specs.State.{boot, view};
-ghost use Rattle.system_model.specs.Tables.{view_of};
-ghost use Rattle.script_model.specs.Script.{Output, text_end};
+ghost use Rattle.script_model.specs.Script.{Output, text_end, full_end};
 ghost use Rattle.sys_types.specs.declared.limits.TheConstants.{TRAIL_EVENTS};
-ghost use Rattle.kern_core.specs.Bounds.{IsAfter, is_after_prop};
-ghost use Rattle.tty_host.specs.Outputs.{Began};
+ghost use Rattle.tty_host.specs.Outputs.{Began, Goes};
 ghost use Rattle.tty_host.specs.Ends.{IsScriptStatus, stop_status};
 ghost use Rattle.tty_host.specs.OneLine.{is_one_line};
 
 use crate::print::bad_line;
 use crate::status::Status;
 use arrayvec::ArrayVec;
-use call_words::{Event, PIECE_BYTES, SCRIPT_LINE_BYTES, TRAIL_EVENTS, Wakes};
+use call_words::{Event, PIECE_BYTES, SCRIPT_LINE_BYTES, Wakes};
 use edge_io::{Failed, Sink, Source};
-use kern_core::{Kernel, NoMemory};
+use kern_core::{Kernel, NoMemory, boot_trail};
 use script_text::{AnswerLine, Events, print_answer, read_event_line};
 use std::alloc::Global;
+use trail_core::{Recorded, Refused};
 use user_db::Boot;
 
 /// Why a run ends before its text does.
@@ -47,18 +45,17 @@ impl Stop {
     }
 }
 
-/// A run: the kernel, for how many events more there is room, the number of the line that is
-/// being read, what has come of it, and the room in which answers are printed.
+/// A run: the kernel with the trail of its events, the number of the line that is being read, what
+/// has come of it, and the room in which answers are printed.
 #[derive(Drop)]
 pub struct Run {
-    pub kernel: Kernel,
-    pub room: u32,
+    pub trail: Recorded<Kernel>,
     pub number: u32,
     pub line: ArrayVec<u8, SCRIPT_LINE_BYTES>,
     pub answer: AnswerLine,
-    ghost most: { room ≤ TRAIL_EVENTS },
-    ghost after: { IsAfter (TRAIL_EVENTS - room) kernel } by { is_after_prop (TRAIL_EVENTS - room) kernel },
-    ghost within: { number + room ≤ 262145 },
+    ghost most: { trail.most ≡ TRAIL_EVENTS },
+    ghost fits: { length trail.events ≤ TRAIL_EVENTS },
+    ghost within: { number ≤ length trail.events + 1 },
     ghost one_line: { IsTrue (is_one_line line.items) },
 }
 
@@ -78,23 +75,34 @@ pub fn write_all<K: Sink>(out: &mut K, bytes: &[u8]) -> Result<(), Failed>
     Ok(())
 }
 
+/// Ends a run in which one event more is asked than a trail has.
+fn stop_full<K: Sink>(out: &mut K) -> Stop
+    ensures goes { (more : Output) → Goes (Err result) (K.written out.old) full_end (K.written out.new) more }
+    ensures failed { result ≡ Stop.Failed → Rose (K.faults out.old) (K.faults out.new) }
+    ensures grows { K.faults out.old ≤ K.faults out.new }
+{
+    match write_all(out, b"full\n") {
+        Ok(()) => Stop::Full,
+        Err(Failed) => Stop::Failed,
+    }
+}
+
 impl Run {
-    ghost use Rattle.tty_host.specs.Come.{come, lines_come, to_come, budget};
-    ghost use Rattle.tty_host.specs.Outputs.{Goes, status_alone};
+    ghost use Rattle.tty_host.specs.Come.{come, lines_come, to_come, events_left, budget};
+    ghost use Rattle.tty_host.specs.Outputs.{status_alone};
     ghost use Rattle.tty_host.specs.Ends.{Writes};
 
     /// A run from a boot, with no byte of its text read. The boot is one that some boot text gives.
     pub fn new(alloc: Global, says: &Boot) -> Result<Self, NoMemory>
         requires { IsBoot says.now }
-        ensures kernel { IfOk result (λ run. view_of run.kernel ≡ view (boot says.now)) }
-        ensures room { IfOk result (λ run. run.room ≡ 262144) }
+        ensures root { IfOk result (λ run. run.trail.root ≡ says.now) }
+        ensures events { IfOk result (λ run. run.trail.events ≡ []) }
         ensures number { IfOk result (λ run. run.number ≡ 1) }
         ensures line { IfOk result (λ run. run.line.items ≡ []) }
     {
-        let kernel = Kernel::boot(alloc, says)?;
+        let trail = boot_trail(alloc, says)?;
         Ok(Run {
-            kernel,
-            room: TRAIL_EVENTS,
+            trail,
             number: 1,
             line: ArrayVec::new(),
             answer: AnswerLine::new(),
@@ -102,31 +110,31 @@ impl Run {
     }
 
     /// Runs one event and writes its answer.
-    fn run_event<K: Sink>(&mut self, event: &Event, out: &mut K) -> Result<(), Stop>
-        requires { MayBeUsed event.now }
+    fn run_event<K: Sink>(&mut self, event: Event, out: &mut K) -> Result<(), Stop>
+        requires { MayBeUsed event }
         ensures goes { (es : List Event) (bad : Option ℕ) → Goes result
-            (K.written out.old) (come self.old (event.now ∷ es) bad)
+            (K.written out.old) (come self.old (event ∷ es) bad)
             (K.written out.new) (come self.new es bad) }
-        ensures room { OnOk result (self.new.room + 1 ≡ self.old.room) }
+        ensures room { OnOk result (events_left self.new + 1 ≡ events_left self.old) }
         ensures number { self.new.number ≡ self.old.number }
         ensures line { self.new.line ≡ self.old.line }
         ensures failed { result ≡ Err Stop.Failed → Rose (K.faults out.old) (K.faults out.new) }
         ensures grows { K.faults out.old ≤ K.faults out.new }
     {
-        if self.room == 0 {
-            return match write_all(out, b"full\n") {
-                Ok(()) => Err(Stop::Full),
-                Err(Failed) => Err(Stop::Failed),
-            };
-        }
         let mut wakes = Wakes::none();
-        let decision = match self.kernel.step(event, &mut wakes) {
+        let decision = match self.trail.apply(event, &mut wakes) {
             Ok(decision) => decision,
-            Err(NoMemory) => return Err(Stop::NoMemory),
+            Err(Refused::Full(_)) => return Err(stop_full(out)),
+            Err(Refused::NoMemory(_)) => return Err(Stop::NoMemory),
         };
-        self.room -= 1;
         self.answer.clear();
-        print_answer(event, &decision, &wakes, &mut self.answer);
+        let events = self.trail.events();
+        print_answer(
+            &events[events.len() - 1],
+            &decision,
+            &wakes,
+            &mut self.answer,
+        );
         match write_all(out, self.answer.as_slice()) {
             Ok(()) => Ok(()),
             Err(Failed) => Err(Stop::Failed),
@@ -139,13 +147,13 @@ impl Run {
         ensures goes { (es : List Event) (bad : Option ℕ) → Goes result
             (K.written out.old) (come self.old (events.now ++ es) bad)
             (K.written out.new) (come self.new es bad) }
-        ensures room { OnOk result (self.new.room < self.old.room) }
+        ensures room { OnOk result (events_left self.new < events_left self.old) }
         ensures number { self.new.number ≡ self.old.number }
         ensures failed { result ≡ Err Stop.Failed → Rose (K.faults out.old) (K.faults out.new) }
         ensures grows { K.faults out.old ≤ K.faults out.new }
     {
         for i in 0..events.len() {
-            self.run_event(&events.get(i), out)?;
+            self.run_event(events.get(i), out)?;
         }
         Ok(())
     }
@@ -169,7 +177,7 @@ impl Run {
             (K.written out.old) (lines_come self.old (self.old.line.items ∷ ls))
             (K.written out.new) (lines_come self.new ls) }
         ensures line { OnOk result (self.new.line.items ≡ []) }
-        ensures room { OnOk result (self.new.room < self.old.room) }
+        ensures room { OnOk result (events_left self.new < events_left self.old) }
         ensures failed { result ≡ Err Stop.Failed → Rose (K.faults out.old) (K.faults out.new) }
         ensures grows { K.faults out.old ≤ K.faults out.new }
     {

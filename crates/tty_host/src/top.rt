@@ -1,5 +1,5 @@
 //! The top calls.
-ghost use Rattle.std.specs.Prelude.{◌≡◌, ℕ, List, [], map, Option, Some};
+ghost use Rattle.std.specs.Prelude.{◌≡◌, ℕ, ◌≤◌, List, [], map, Option, Some};
 ghost use Rattle.std.specs.String.{string_bytes};
 ghost use Rattle.edge_io.specs.Outside.{Rose};
 ghost use Rattle.user_db.specs.Boot.{IsBoot};
@@ -7,10 +7,12 @@ ghost use Rattle.script_model.specs.Reading.{reads};
 ghost use Rattle.script_model.specs.Script.{run_out};
 ghost use Rattle.tty_host.specs.Ends.{IsScriptStatus, Writes};
 ghost use Rattle.tty_host.specs.Uses.{source_use, sink_use};
-ghost use Rattle.tty_host.specs.Tops.{RanScript, WroteUsage, choice_of};
+ghost use Rattle.tty_host.specs.Tops.{RanScript, WroteLoad, WroteUsage, ReadsNothing, choice_of};
+ghost use Rattle.script_model.specs.Load.{LOAD_EVENTS, load_out};
 
 use crate::boot::{NoBoot, take_boot};
 use crate::choice::{Choice, choose};
+use crate::load::run_load;
 use crate::print::bad_boot_line;
 use crate::run::{Run, write_all};
 use crate::status::Status;
@@ -67,6 +69,23 @@ pub fn script_top<B: Source, S: Source, K: Sink>(
     }
 }
 
+/// Runs the load of `n` drawn events, at most 262,140, from the generator's state `start`, over the boot that an empty boot text
+/// says, and writes the five lines of its summary.
+///
+/// `Memory` comes only with nothing written, and `WriteFault` only where the sink's count of faults rose.
+pub fn load_top<K: Sink>(alloc: Global, n: u32, start: u64, out: &mut K) -> Status
+    requires { n ≤ LOAD_EVENTS }
+    ensures { WroteLoad result (load_out n start) (sink_use K.written K.faults out.old out.new) }
+{
+    let Ok(summary) = run_load(alloc, n, start) else {
+        return Status::Memory;
+    };
+    match write_all(out, summary.as_slice()) {
+        Ok(()) => Status::Done,
+        Err(Failed) => Status::WriteFault,
+    }
+}
+
 /// Runs the command that the words after the program's name choose: every command but `serve`.
 /// Words of no form give the usage line and status 1, and nothing is read. Status 1 comes exactly there, where the sink's count
 /// of faults did not rise.
@@ -81,14 +100,17 @@ pub fn plain_top<B: Source, S: Source, K: Sink>(
         (source_use B.left B.faults boot.old boot.new)
         (source_use S.left S.faults src.old src.new)
         (sink_use K.written K.faults out.old out.new) }
+    ensures load { (n start : ℕ) → choice_of (map string_bytes words.now) ≡ Choice.Load n start →
+        WroteLoad result (load_out n start) (sink_use K.written K.faults out.old out.new) }
     ensures usage { choice_of (map string_bytes words.now) ≡ Choice.Usage →
         WroteUsage result (sink_use K.written K.faults out.old out.new) }
     ensures usage_alone { result ≡ Status.Usage → (choice_of (map string_bytes words.now) ≡ Choice.Usage) × (K.faults out.new ≡ K.faults out.old) }
-    ensures boot_unread { choice_of (map string_bytes words.now) ≡ Choice.Usage → boot.new ≡ boot.old }
-    ensures src_unread { choice_of (map string_bytes words.now) ≡ Choice.Usage → src.new ≡ src.old }
+    ensures boot_unread { ReadsNothing (choice_of (map string_bytes words.now)) → boot.new ≡ boot.old }
+    ensures src_unread { ReadsNothing (choice_of (map string_bytes words.now)) → src.new ≡ src.old }
 {
     match choose(words) {
         Choice::Script { .. } => script_top(alloc, boot, src, out),
+        Choice::Load { n, start } => load_top(alloc, n, start, out),
         Choice::Usage => match write_all(out, USAGE) {
             Ok(()) => Status::Usage,
             Err(Failed) => Status::WriteFault,

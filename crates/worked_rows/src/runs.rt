@@ -201,7 +201,24 @@ fn runs_of_texts_lengths_and_faults(rt: HostRuntime) -> Result<(), Fail> {
 }
 
 /// Words of no form, and forms that are not built yet.
-const NO_FORM: [&str; 6] = ["script a b", "jump", "", "jump b", "session b", "Script"];
+const NO_FORM: [&str; 16] = [
+    "script a b",
+    "jump",
+    "",
+    "jump b",
+    "session b",
+    "Script",
+    "load",
+    "load 0",
+    "load 0 7 8",
+    "load 262141 1",
+    "load 00 1",
+    "load 1 07",
+    "load -1 7",
+    "load 1 +7",
+    "load 0 18446744073709551616",
+    "Load 0 7",
+];
 
 const USAGE: &str =
     "usage: revtty script [BOOT] | session [BOOT] | load N START | serve DIR BOOT\n";
@@ -224,6 +241,48 @@ fn usage(rt: HostRuntime) -> Result<(), Fail> {
         let is_told = session.writes(rt.alloc(), USAGE.as_bytes(), 1)?;
         assert!(rt; is_told, "{command}");
     }
+    Ok(())
+}
+
+/// The summary of a load that draws no event: of the answer lines `0 ok 0`, `0 ok 2`, `0 ok 3` and `0 ok 4`, whose digest was
+/// made by another program.
+const EMPTY_LOAD: &str = "events 4
+denied 0
+slept 0
+moved 0
+digest aad2d746d99800c3ab28905c7fae19540312be764ae35603ed2ea426e1b1bf90
+";
+
+/// Whether a load reads neither boot text nor source, and writes these bytes and ends so, where a write fails.
+fn loads(
+    alloc: Global,
+    command: &str,
+    sink: u64,
+    written: &str,
+    status: u64,
+) -> Result<bool, Fail> {
+    let session = Session {
+        command,
+        boot_text: b"",
+        script: b"",
+        faults: Faults {
+            boot: 1,
+            script: 1,
+            sink,
+        },
+        room: ROOM,
+    };
+    Ok(session.writes(alloc, written.as_bytes(), status)?)
+}
+
+#[test]
+fn empty_loads(rt: HostRuntime) -> Result<(), Fail> {
+    for command in &["load 0 7", "load 0 0", "load 0 18446744073709551615"] {
+        let is_right = loads(rt.alloc(), command, 0, EMPTY_LOAD, 0)?;
+        assert!(rt; is_right, "{command}");
+    }
+    let is_stopped = loads(rt.alloc(), "load 0 7", 1, "", 4)?;
+    assert!(rt; is_stopped);
     Ok(())
 }
 

@@ -1,7 +1,4 @@
 use Rattle.std.proofs.Common.{append_assoc}
-use Rattle.std.specs.List.{AllByRecursion}
-use Rattle.acl_core.specs.declared.entry.Entry.{Entry}
-use Rattle.acl_core.specs.Entry.{Fits}
 use Rattle.script_text.proofs.OctalDigits.{all_entries, text_fits}
 use Rattle.script_text.proofs.push.push_entries.Goals as goal
 

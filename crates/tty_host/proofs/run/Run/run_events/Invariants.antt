@@ -1,7 +1,7 @@
 use Rattle.std.proofs.Common.{◌≡◌, ◌+◌, ◌≤◌, ◌++◌, List, ℕ, Option, drop}
 use Rattle.call_words.specs.declared.event.Event.{Event}
 use Rattle.tty_host.specs.Outputs.{Keeps}
-use Rattle.tty_host.specs.Come.{come}
+use Rattle.tty_host.specs.Come.{come, events_left}
 use Rattle.tty_host.proofs.run.Run.run_events.Given as goal
 
 -- the events so far are run
@@ -9,7 +9,7 @@ abbrev pub invariant-loop-i : goal.invariant-loop-i
 invariant-loop-i g l = record {
   keeps : (es : List Event) (bad : Option ℕ)
       → Keeps (g.K.Sink.written l.fn.out) (come l.fn.self (l.events ++ es) bad) (g.K.Sink.written l.out) (come l.self (drop l.i l.events ++ es) bad);
-  room : l.self.room + l.i ≡ l.fn.self.room;
+  room : events_left l.self + l.i ≡ events_left l.fn.self;
   number : l.self.number ≡ l.fn.self.number;
   grows : g.K.Sink.faults l.fn.out ≤ g.K.Sink.faults l.out;
 }
