@@ -87,7 +87,7 @@ get_or-bytes_in_put pool blocks p v q w once hp hq inside =
     ]
 
 -- blocks of which none is twice, with a byte put into a place, are changed at that place
-bytes_in_put : (pool : PoolState) (blocks : List ℕ) (p v : ℕ) → AreWhole pool blocks → ((n : ℕ) → times n blocks ≤ 1) → p < 128 * length blocks
+pub bytes_in_put : (pool : PoolState) (blocks : List ℕ) (p v : ℕ) → AreWhole pool blocks → ((n : ℕ) → times n blocks ≤ 1) → p < 128 * length blocks
     → get_or blocks (p / 128) 0 < length pool.blocks →
     bytes_in (put_at pool (get_or blocks (p / 128) 0) (p % 128) v) blocks ≡ set (bytes_in pool blocks) p v
 bytes_in_put pool blocks p v w once below inside =

@@ -1,5 +1,5 @@
 //! A list of bytes over the blocks of a lease.
-ghost use Rattle.std.specs.Prelude.{◌≡◌, ◌+◌, ◌*◌, ◌<◌, ◌≤◌, ◌↔◌, [], ◌∷◌, ◌++◌, length, None, option_to_list};
+ghost use Rattle.std.specs.Prelude.{◌≡◌, ◌+◌, ◌*◌, ◌<◌, ◌≤◌, ◌↔◌, [], ◌∷◌, ◌++◌, length, take, None, option_to_list};
 ghost use Rattle.block_pool.specs.Pool.{PoolState, AreOf, AreApart, WritesTo};
 ghost use Rattle.block_pool.specs.Chain.{ChainState, room_of, holds};
 
@@ -105,6 +105,44 @@ impl Chain {
         self.count += 1;
     }
 
+    /// Adds bytes at the end: as many of them as the block takes in which the next place is, and at least one. There is one, there
+    /// is room for all, and the blocks are of the pool. Answers how many it adds.
+    fn push_run(&mut self, pool: &mut Pool, bytes: &[u8]) -> usize
+        requires some { 0 < length bytes.now }
+        requires room { length bytes.now ≤ room_of self.old }
+        requires of_pool { AreOf pool.old self.old.blocks }
+        ensures some { 0 < result }
+        ensures most { result ≤ length bytes.now }
+        ensures bytes { holds pool.new self.new ≡ holds pool.old self.old ++ take result bytes.now }
+        ensures count { self.new.count ≡ self.old.count + result }
+        ensures blocks { self.new.blocks ≡ self.old.blocks }
+        ensures writes { WritesTo self.old.blocks pool.old pool.new }
+    {
+        let places = bytes_of(&self.lease);
+        let place = (self.first + self.count) % places;
+        let left = BLOCK_BYTES - usize::from(place) % BLOCK_BYTES;
+        let run = left.min(bytes.len());
+        pool.put_run(&self.lease, place, &bytes[..run]);
+        self.count += run as u16;
+        run
+    }
+
+    /// Adds bytes at the end. There is room for all, and the blocks are of the pool.
+    pub fn push_all(&mut self, pool: &mut Pool, bytes: &[u8])
+        requires room { length bytes.now ≤ room_of self.old }
+        requires of_pool { AreOf pool.old self.old.blocks }
+        ensures bytes { holds pool.new self.new ≡ holds pool.old self.old ++ bytes.now }
+        ensures count { self.new.count ≡ self.old.count + length bytes.now }
+        ensures blocks { self.new.blocks ≡ self.old.blocks }
+        ensures writes { WritesTo self.old.blocks pool.old pool.new }
+        ensures others { (other : ChainState) → AreApart self.old.blocks other.blocks → holds pool.new other ≡ holds pool.old other }
+    {
+        let mut done = 0;
+        while done < bytes.len() {
+            done += self.push_run(pool, &bytes[done..]);
+        }
+    }
+
     /// Takes the first byte. `None` comes exactly where there is none. The blocks are of the pool.
     pub fn pop_front(&mut self, pool: &Pool) -> Option<u8>
         requires { AreOf pool.now self.old.blocks }
@@ -121,6 +159,28 @@ impl Chain {
         self.first = (self.first + 1) % bytes;
         self.count -= 1;
         Some(byte)
+    }
+
+    /// Takes bytes from the front, at most `max`, which is at least 1: as many as stand in one block of the pool. They are none
+    /// exactly where there is none. The blocks are of the pool.
+    pub fn pop_run<'a>(&mut self, pool: &'a Pool, max: usize) -> &'a [u8]
+        requires some { 0 < max }
+        requires of_pool { AreOf pool.now self.old.blocks }
+        ensures none { (result.now ≡ []) ↔ (holds pool.now self.old ≡ []) }
+        ensures most { length result.now ≤ max }
+        ensures bytes { holds pool.now self.old ≡ result.now ++ holds pool.now self.new }
+        ensures count { self.old.count ≡ self.new.count + length result.now }
+        ensures blocks { self.new.blocks ≡ self.old.blocks }
+    {
+        if self.count == 0 {
+            return &[];
+        }
+        let places = bytes_of(&self.lease);
+        let run = pool.run_from(&self.lease, self.first % places);
+        let taken = run.len().min(usize::from(self.count)).min(max);
+        self.first = (self.first + taken as u16) % places;
+        self.count -= taken as u16;
+        &run[..taken]
     }
 
     /// Takes the last byte. `None` comes exactly where there is none. The blocks are of the pool.

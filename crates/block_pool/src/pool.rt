@@ -1,5 +1,5 @@
 //! The blocks, and which of them are free.
-ghost use Rattle.std.specs.Prelude.{◌≡◌, ℕ, ◌*◌, ◌<◌, ◌≤◌, ◌↔◌, List, [], ◌++◌, length, IfOk, OnErr, IsErr, slice_index, slice_set, vec_capacity, All};
+ghost use Rattle.std.specs.Prelude.{◌≡◌, ℕ, ◌+◌, ◌-◌, ◌*◌, ◌%◌, ◌<◌, ◌≤◌, ◌↔◌, List, [], ◌++◌, length, take, drop, IfOk, OnErr, IsErr, slice_index, slice_set, vec_capacity, All};
 ghost use Rattle.std.specs.List.{range_with_len};
 ghost use Rattle.block_pool.specs.Pool.{bytes_in, AreOf, AreAllOf, Lends, WritesTo};
 
@@ -136,5 +136,38 @@ impl Pool {
         let number = lease.numbers()[place / BLOCK_BYTES];
         let block = &mut self.blocks[usize::from(number)];
         block[place % BLOCK_BYTES] = byte;
+    }
+
+    /// The bytes from a place on to the end of its block, of the blocks of a lease, which run one after another.
+    pub(crate) fn run_from<'a>(&'a self, lease: &Lease, place: u16) -> &'a [u8]
+        requires of_pool { AreOf self.now lease.now }
+        requires place { place < BLOCK_BYTES * length lease.now }
+        ensures run { result.now ≡ take (length result.now) (drop place (bytes_in self.now lease.now)) }
+        ensures len { length result.now ≡ BLOCK_BYTES - place % BLOCK_BYTES }
+        ensures bytes { length (bytes_in self.now lease.now) ≡ BLOCK_BYTES * length lease.now }
+    {
+        let place = usize::from(place);
+        let number = lease.numbers()[place / BLOCK_BYTES];
+        let block = &self.blocks[usize::from(number)];
+        let (_, run) = block.split_at(place % BLOCK_BYTES);
+        run
+    }
+
+    /// Puts bytes from a place on into its block, which has as many places from there on, of the blocks of a lease, which run
+    /// one after another.
+    pub(crate) fn put_run(&mut self, lease: &Lease, place: u16, bytes: &[u8])
+        requires of_pool { AreOf self.old lease.now }
+        requires place { place < BLOCK_BYTES * length lease.now }
+        requires block { place % BLOCK_BYTES + length bytes.now ≤ BLOCK_BYTES }
+        ensures put { bytes_in self.new lease.now
+            ≡ take place (bytes_in self.old lease.now) ++ bytes.now ++ drop (place + length bytes.now) (bytes_in self.old lease.now) }
+        ensures writes { WritesTo lease.now self.old self.new }
+        ensures bytes { length (bytes_in self.old lease.now) ≡ BLOCK_BYTES * length lease.now }
+    {
+        let place = usize::from(place);
+        let number = lease.numbers()[place / BLOCK_BYTES];
+        let block = &mut self.blocks[usize::from(number)];
+        let at = place % BLOCK_BYTES;
+        block[at..at + bytes.len()].copy_from_slice(bytes);
     }
 }

@@ -2,7 +2,7 @@
 
 use acl_core::Cred;
 use arrayvec::ArrayVec;
-use block_pool::Pool;
+use block_pool::{Chain, Pool};
 use label_core::{Element, Subject};
 use std::alloc::Global;
 use std::test::Fail;
@@ -20,6 +20,34 @@ fn a_lease_of_forty(rt: HostRuntime) -> Result<(), Fail> {
     let left = pool.free();
     pool.give_back(lease);
     assert!(rt; left == 472 && pool.free() == 512);
+    Ok(())
+}
+
+/// Two blocks have 256 places. 200 bytes stand in them; 178 are taken, 128 of the first block and 50 of the second; 100 more go round
+/// from place 200 to place 43. They come out as 22 and 56 to the end of the second block, and as 44 of the first.
+#[test]
+fn bytes_go_round_two_blocks(rt: HostRuntime) -> Result<(), Fail> {
+    let mut pool = Pool::new(rt.alloc(), 2)?;
+    let Ok(lease) = pool.reserve(2) else {
+        return Err("2 blocks are free".into());
+    };
+    let mut chain = Chain::over(lease);
+    chain.push_all(&mut pool, &[b'a'; 200]);
+    let block = chain.pop_run(&pool, 512).len();
+    let part = chain.pop_run(&pool, 50).len();
+    if chain.room() < 100 {
+        return Err("22 of 256 places are taken".into());
+    }
+    chain.push_all(&mut pool, &[b'b'; 100]);
+    let held = chain.len();
+    let mut wanted = [b'b'; 78];
+    wanted[..22].copy_from_slice(&[b'a'; 22]);
+    let to_end = chain.pop_run(&pool, 512) == wanted.as_slice();
+    let from_start = chain.pop_run(&pool, 512) == [b'b'; 44].as_slice();
+    let none = chain.pop_run(&pool, 512).is_empty();
+    pool.give_back(chain.into_lease());
+    assert!(rt; block == 128 && part == 50 && held == 122);
+    assert!(rt; to_end && from_start && none);
     Ok(())
 }
 

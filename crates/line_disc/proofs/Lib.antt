@@ -1,5 +1,6 @@
 pub mod PlaceLemmas
 pub mod LineLemmas
+pub mod RawLemmas
 pub mod InputLemmas
 pub mod DiscLemmas
 pub mod MapLemmas

@@ -323,15 +323,27 @@ lines_of-ended (Byte ∷ ks) (b ∷ c ∷ bs) many all =
 lines_of-ended (LineEnd ∷ ks) bs many all = cc
 lines_of-ended (FileEnd ∷ ks) bs many all = cc
 
--- the next of a list
-pub take_next : (hs rest : List ℕ) (b i : ℕ) → drop i hs ≡ b ∷ rest → (take (i + 1) hs ≡ take i hs ++ b ∷ []) × (drop (i + 1) hs ≡ rest)
-take_next [] rest b zero next = cc
-take_next [] rest b (suc i) next = cc
-take_next (h ∷ hs) rest b zero next = (cc, cc)
-take_next (h ∷ hs) rest b (suc i) next =
-    let more : suc i + 1 ≡ suc (i + 1) = omega arith in
-    let inner = take_next hs rest b i next in
-    (rw more (ap (λ (xs : List ℕ). h ∷ xs) inner.0), rw more inner.1)
+-- bytes alone that are behind the first are bytes alone
+pub all_bytes-drop : (n : ℕ) (ks : List PlaceKind) → all_bytes ks ≡ true → all_bytes (drop n ks) ≡ true
+all_bytes-drop zero ks all = all
+all_bytes-drop (suc n) [] all = all
+all_bytes-drop (suc n) (Byte ∷ ks) all = all_bytes-drop n ks all
+all_bytes-drop (suc n) (LineEnd ∷ ks) all = cc
+all_bytes-drop (suc n) (FileEnd ∷ ks) all = cc
+
+-- a read of bytes alone
+pub walk_all_bytes : (max : ℕ) (ks : List PlaceKind) (bs : List ℕ) → length ks ≡ length bs → all_bytes ks ≡ true
+    → ((walk max (zip ks bs)).0 ≡ take max bs) × ((walk max (zip ks bs)).1 ≡ zip (drop max ks) (drop max bs))
+walk_all_bytes zero [] [] same all = (refl, refl)
+walk_all_bytes (suc n) [] [] same all = (refl, refl)
+walk_all_bytes max [] (b ∷ bs) same all = absurd (omega (arith, same))
+walk_all_bytes max (k ∷ ks) [] same all = absurd (omega (arith, same))
+walk_all_bytes zero (Byte ∷ ks) (b ∷ bs) same all = (refl, refl)
+walk_all_bytes (suc n) (Byte ∷ ks) (b ∷ bs) same all =
+    let rest = walk_all_bytes n ks bs (omega (arith, same)) all in
+    (ap (λ (xs : List ℕ). b ∷ xs) rest.0, rest.1)
+walk_all_bytes max (LineEnd ∷ ks) (b ∷ bs) same all = cc
+walk_all_bytes max (FileEnd ∷ ks) (b ∷ bs) same all = cc
 
 -- Ends of file in front.
 

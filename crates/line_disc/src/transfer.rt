@@ -27,9 +27,7 @@ pub(crate) fn append(chain: &mut Chain, pool: &mut Pool, bytes: &[u8])
     ensures blocks { chain.new.blocks ≡ chain.old.blocks }
     ensures writes { WritesTo chain.old.blocks pool.old pool.new }
 {
-    for byte in bytes {
-        chain.push_back(pool, *byte);
-    }
+    chain.push_all(pool, bytes);
 }
 
 /// Adds what goes out for bytes at the end of a line's output, of 32 blocks, as long as all of it fits for each byte. Answers
@@ -47,6 +45,11 @@ pub(crate) fn append_shown(
     ensures blocks { output.new.blocks ≡ output.old.blocks }
     ensures writes { WritesTo output.old.blocks pool.old pool.new }
 {
+    if !termios.flags.opost {
+        let count = bytes.len().min(usize::from(output.room()));
+        append(output, pool, &bytes[..count]);
+        return count as u16;
+    }
     let mut count = 0;
     for byte in bytes {
         let out = shown_byte(termios, *byte);
@@ -79,11 +82,13 @@ pub(crate) fn take_front(chain: &mut Chain, pool: &Pool, max: u16) -> Piece
     ensures blocks { chain.new.blocks ≡ chain.old.blocks }
 {
     let mut bytes = ArrayVec::<u8, PIECE_BYTES>::new();
-    for _place in 0..max {
-        let Some(byte) = chain.pop_front(pool) else {
+    let max = usize::from(max);
+    while bytes.len() < max {
+        let run = chain.pop_run(pool, max - bytes.len());
+        if run.is_empty() {
             return piece_of(&bytes);
-        };
-        bytes.push(byte);
+        }
+        let _ = bytes.try_extend_from_slice(run);
     }
     piece_of(&bytes)
 }

@@ -1,11 +1,13 @@
-use Rattle.std.proofs.Common.{◌≡◌, length, take, drop}
+use Rattle.std.proofs.Common.{◌≡◌, ◌-◌, ◌≤◌, ◌++◌, length}
 use Rattle.block_pool.specs.Chain.{holds}
 use Rattle.line_disc.proofs.transfer.take_front.Given as goal
 
-abbrev pub invariant-loop-place : goal.invariant-loop-place
-invariant-loop-place l = record {
-  bytes : l.bytes.items ≡ take l._place (holds l.pool l.initial.chain);
-  rest : holds l.pool l.chain ≡ drop l._place (holds l.pool l.initial.chain);
-  count : length l.bytes.items ≡ l._place;
+abbrev pub invariant-loop-chain : goal.invariant-loop-chain
+invariant-loop-chain l = record {
+  whole : l.bytes.items ++ holds l.pool l.chain ≡ holds l.pool l.initial.chain;
+  most : length l.bytes.items ≤ l.max;
   blocks : l.chain.blocks ≡ l.initial.chain.blocks;
 }
+
+abbrev pub decreases-loop-chain : goal.decreases-loop-chain
+decreases-loop-chain l = l.max - length l.bytes.items
