@@ -108,10 +108,10 @@ impl Machine for Kernel {
 /// A kernel of the boot with an empty trail, and room for 262,144 events. `NoMemory`, where memory runs out, is the only error.
 ///
 /// The boot is one that some boot text gives.
-pub fn boot_trail(alloc: Global, says: &Boot) -> Result<Recorded<Kernel>, NoMemory>
-    requires { IsBoot says.now }
-    ensures { IfOk result (λ trail. trail ≡ record { root = says.now; most = TRAIL_EVENTS; events = [] }) }
+pub fn boot_trail(alloc: Global, says: Boot) -> Result<Recorded<Kernel>, NoMemory>
+    requires { IsBoot says }
+    ensures { IfOk result (λ trail. trail ≡ record { root = says; most = TRAIL_EVENTS; events = [] }) }
 {
-    let kernel = Kernel::boot(alloc, says)?;
-    Recorded::new(alloc, kernel, TRAIL_EVENTS)
+    let system = System::boot(alloc, &says)?;
+    Recorded::new(alloc, Kernel { system, says }, TRAIL_EVENTS)
 }

@@ -120,7 +120,7 @@ impl LoadRun {
         ensures summed { IfOk result IsSummed }
         ensures events { IfOk result (λ run. run.trail.events ≡ []) }
     {
-        let trail = boot_trail(alloc, &standard_boot(alloc))?;
+        let trail = boot_trail(alloc, standard_boot(alloc))?;
         Ok(LoadRun {
             trail,
             counts: Counts {

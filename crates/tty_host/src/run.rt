@@ -93,9 +93,9 @@ impl Run {
     ghost use Rattle.tty_host.specs.Ends.{Writes};
 
     /// A run from a boot, with no byte of its text read. The boot is one that some boot text gives.
-    pub fn new(alloc: Global, says: &Boot) -> Result<Self, NoMemory>
-        requires { IsBoot says.now }
-        ensures root { IfOk result (λ run. run.trail.root ≡ says.now) }
+    pub fn new(alloc: Global, says: Boot) -> Result<Self, NoMemory>
+        requires { IsBoot says }
+        ensures root { IfOk result (λ run. run.trail.root ≡ says) }
         ensures events { IfOk result (λ run. run.trail.events ≡ []) }
         ensures number { IfOk result (λ run. run.number ≡ 1) }
         ensures line { IfOk result (λ run. run.line.items ≡ []) }

@@ -35,7 +35,7 @@ fn run_script<S: Source, K: Sink>(alloc: Global, says: Boot, src: &mut S, out: &
     ensures write_fault { result ≡ Status.WriteFault → Rose (K.faults out.old) (K.faults out.new) }
     ensures others { IsScriptStatus result }
 {
-    match Run::new(alloc, &says) {
+    match Run::new(alloc, says) {
         Ok(run) => run.run_source(src, out),
         Err(NoMemory) => Status::Memory,
     }
