@@ -13,7 +13,9 @@ use Rattle.user_db.specs.Lines.{is_newline, without_empty_last, lines}
 use Rattle.script_model.specs.Reading.{reads_from}
 use Rattle.script_text.specs.Reading.{events_of_line}
 use Rattle.tty_host.specs.declared.run.Stop.{Stop}
-use Rattle.tty_host.specs.Outputs.{Goes, status_alone}
+use Rattle.tty_host.specs.declared.run.Run.{Run}
+use Rattle.tty_host.specs.Come.{to_come, seen_so_far, events_left}
+use Rattle.tty_host.specs.Outputs.{Goes, behind, status_alone}
 use Rattle.tty_host.specs.OneLine.{is_one_line}
 use Rattle.tty_host.proofs.OutputLemmas.{goes-stop}
 use Rattle.tty_host.proofs.OneEvent.{script_of}
@@ -120,3 +122,8 @@ goes-emptied (Err s) a b x F line text empty h = goes-stop s a b x (F (lines tex
 pub none-come : (v : View) (room n : ℕ) → status_alone 0 ≡ out_seen v room (reads_from n [])
 unfolding text_end
 none-come v room n = sym (out_seen-end v room None)
+
+-- what is still to come of a text depends on the trail, the line so far and its number, and on what is gathered
+pub same-come : (old new : Run) (text : List ℕ) → new.trail ≡ old.trail → new.number ≡ old.number → new.line ≡ old.line
+    → behind new.output.items (out_seen (seen_so_far old) (events_left old) (reads_from old.number (lines (old.line.items ++ text)))) ≡ to_come new text
+same-come old new text trail number line = rw (trail, number, line) refl

@@ -1,8 +1,7 @@
 -- One event of a run.
-use Rattle.std.proofs.Common.{◌≡◌, ℕ, zero, suc, ◌+◌, ◌-◌, ◌<◌, true, List, ◌∷◌, ◌++◌, Option, Some, Ok, Err, Result, length, drop, get_or, drop-cons, add-one, refl, sym, ap, ◌∙◌, arith}
-use Rattle.std.specs.Prelude.{codes, slice_get}
+use Rattle.std.proofs.Common.{◌≡◌, ℕ, zero, suc, ◌+◌, ◌-◌, ◌<◌, true, List, [], ◌∷◌, ◌++◌, Option, Some, Result, length, drop, get_or, drop-cons, add-one, refl, sym, ap, subst, ◌∙◌, arith}
+use Rattle.std.specs.Prelude.{slice_get}
 use Rattle.std.proofs.lemmas.Option.{slice_get_within, get_or_from_slice_get}
-use Rattle.edge_io.specs.Outside.{Appended}
 use Rattle.call_words.specs.declared.event.Event.{Event}
 use Rattle.call_words.specs.declared.event.Decision.{Decision}
 use Rattle.call_words.specs.Events.{WakeList}
@@ -15,24 +14,14 @@ use Rattle.system_laws.specs.Memory.{finds_no_memory}
 use Rattle.script_model.specs.Seen.{out_seen, with_line}
 use Rattle.script_model.proofs.SeenRuns.{out_seen-full, out_seen-event}
 use Rattle.tty_host.specs.declared.run.Stop.{Stop}
-use Rattle.tty_host.specs.declared.run.Stop.TheVariants.{Full, Failed, NoMemory}
-use Rattle.tty_host.specs.Outputs.{Began, Keeps, Goes}
-use Rattle.tty_host.proofs.OutputLemmas.{keeps-more, goes-more, keeps-line, keeps-last, began-line, goes-at, goes-ok, goes-full, goes-failed, goes-memory}
+use Rattle.tty_host.specs.Outputs.{Among, Keeps, Goes}
+use Rattle.tty_host.proofs.OutputLemmas.{keeps-more, goes-more, stops-before}
 
 abbrev pub script_of : List Event → Option ℕ → ScriptEvents
 script_of es bad = record { events = es; bad = bad }
 
 pub full : (v : View) (room : ℕ) (e : Event) (es : List Event) (bad : Option ℕ) → room ≡ 0 → out_seen v room (script_of (e ∷ es) bad) ≡ full_end
 full v room e es bad none = rw none (out_seen-full v e es bad)
-
--- where there is no room, the last line was written
-pub event-full : (v : View) (room : ℕ) (e : Event) (es : List Event) (bad : Option ℕ) (a b : Option (List ℕ)) (y : Output) → room ≡ 0
-    → Appended a b (codes "full\n") → Goes (Err Full) a (out_seen v room (script_of (e ∷ es) bad)) b y
-event-full v room e es bad a b y none h = goes-at (Err Full) a b _ full_end y (full v room e es bad none) (goes-full a b full_end y (keeps-last a b full_end h))
-
-pub event-full-failed : (v : View) (room : ℕ) (e : Event) (es : List Event) (bad : Option ℕ) (a b : Option (List ℕ)) (y : Output) → room ≡ 0
-    → Began a (codes "full\n") b → Goes (Err Failed) a (out_seen v room (script_of (e ∷ es) bad)) b y
-event-full-failed v room e es bad a b y none h = goes-at (Err Failed) a b _ full_end y (full v room e es bad none) (goes-failed a b full_end y h)
 
 -- what the kernel made of an event, and the line of its answer
 pub record IsAnswered (v v' : View) (e : Event) (line : List ℕ) : Type 0 where
@@ -46,7 +35,8 @@ is_answered v v' e d w line after answer woken printed = record {
   printed = printed ∙ ap (λ d. answer_line e d w) answer ∙ ap (λ w. answer_line e (answer_to v e) w) (woken ∙ ap wakes after);
 }
 
-next : (v v' : View) (room : ℕ) (e : Event) (es : List Event) (bad : Option ℕ) (line : List ℕ) → 0 < room → IsAnswered v v' e line
+-- where there is room, the answer comes first, and then what the other events are answered
+pub next : (v v' : View) (room : ℕ) (e : Event) (es : List Event) (bad : Option ℕ) (line : List ℕ) → 0 < room → IsAnswered v v' e line
     → out_seen v room (script_of (e ∷ es) bad) ≡ with_line v e line (out_seen v' (room - 1) (script_of es bad))
 next v v' zero e es bad line some h = absurd (omega arith)
 next v v' (suc room) e es bad line some h =
@@ -54,29 +44,13 @@ next v v' (suc room) e es bad line some h =
     out_seen-event v room e es bad ∙ ap (λ l. with_line v e l (out_seen (view_after v e) room (script_of es bad))) (sym h.printed)
     ∙ ap (λ u. with_line v e line (out_seen u room (script_of es bad))) (sym h.after) ∙ ap (λ n. with_line v e line (out_seen v' n (script_of es bad))) (sym left)
 
--- where there is room, the answer was written, and the other events are still to come
-pub event-next : (v v' : View) (room : ℕ) (e : Event) (es : List Event) (bad : Option ℕ) (a b : Option (List ℕ)) (line : List ℕ) → 0 < room
-    → IsAnswered v v' e line → Appended a b line → Goes (Ok tt) a (out_seen v room (script_of (e ∷ es) bad)) b (out_seen v' (room - 1) (script_of es bad))
-event-next v v' room e es bad a b line some h before =
-    let more = out_seen v' (room - 1) (script_of es bad) in
-    goes-at (Ok tt) a b _ (with_line v e line more) more (next v v' room e es bad line some h)
-    (goes-ok a b (with_line v e line more) more (keeps-line a b v e line more before))
-
-pub event-next-failed : (v v' : View) (room : ℕ) (e : Event) (es : List Event) (bad : Option ℕ) (a b : Option (List ℕ)) (y : Output) (line : List ℕ) → 0 < room
-    → IsAnswered v v' e line → Began a line b → Goes (Err Failed) a (out_seen v room (script_of (e ∷ es) bad)) b y
-event-next-failed v v' room e es bad a b y line some h began =
-    let more = out_seen v' (room - 1) (script_of es bad) in
-    goes-at (Err Failed) a b _ (with_line v e line more) y (next v v' room e es bad line some h)
-    (goes-failed a b (with_line v e line more) y (began-line a b line more.bytes began))
-
--- where memory ran out at an event for which there is room, nothing of it was written
-pub event-memory : (v : View) (room : ℕ) (e : Event) (es : List Event) (bad : Option ℕ) (a : Option (List ℕ)) (y : Output) → 0 < room
-    → finds_no_memory v e ≡ true → Goes (Err NoMemory) a (out_seen v room (script_of (e ∷ es) bad)) a y
-event-memory v zero e es bad a y some wants = absurd (omega arith)
-event-memory v (suc room) e es bad a y some wants =
-    let line = answer_line e (answer_to v e) (wakes (view_after v e)) in
-    let more = out_seen (view_after v e) room (script_of es bad) in
-    goes-at (Err NoMemory) a a _ (with_line v e line more) y (out_seen-event v room e es bad) (goes-memory a v e line more y wants)
+-- where memory runs out at an event for which there is room, nothing of it is written
+pub stops-at : (v : View) (room : ℕ) (e : Event) (es : List Event) (bad : Option ℕ) → 0 < room → finds_no_memory v e ≡ true
+    → Among (out_seen v room (script_of (e ∷ es) bad)).stops []
+stops-at v zero e es bad some wants = absurd (omega arith)
+stops-at v (suc room) e es bad some wants =
+    subst (λ (out : Output). Among out.stops []) (sym (out_seen-event v room e es bad))
+    (stops-before v e (answer_line e (answer_to v e) (wakes (view_after v e))) (out_seen (view_after v e) room (script_of es bad)) wants)
 
 -- the events from i on are the one at i and those after it
 events-cons : (events es : List Event) (i : ℕ) (e : Event) → slice_get events i ≡ Some e → drop i events ++ es ≡ e ∷ (drop (i + 1) events ++ es)
@@ -84,18 +58,13 @@ events-cons events es i e h =
     let within : i < length events = slice_get_within events i e h in
     rw (drop-cons events i e within, get_or_from_slice_get events i e e h, add-one i) refl
 
-pub keeps-next : (a b c : Option (List ℕ)) (x z : Output) (v : View) (room : ℕ) (events es : List Event) (bad : Option ℕ) (i : ℕ) (e : Event)
-    → slice_get events i ≡ Some e
-    → Keeps a x b (out_seen v room (script_of (drop i events ++ es) bad))
-    → Keeps b (out_seen v room (script_of (e ∷ (drop (i + 1) events ++ es)) bad)) c z → Keeps a x c z
-keeps-next a b c x z v room events es bad i e h before call = keeps-more a b c x _ z (rw (events-cons events es i e h) at before) call
+pub keeps-next : (a b c : Option (List ℕ)) (x z : Output) (come : List Event → Output) (events es : List Event) (i : ℕ) (e : Event) → slice_get events i ≡ Some e
+    → Keeps a x b (come (drop i events ++ es)) → Keeps b (come (e ∷ (drop (i + 1) events ++ es))) c z → Keeps a x c z
+keeps-next a b c x z come events es i e h before call = keeps-more a b c x _ z (rw (events-cons events es i e h) at before) call
 
-pub goes-next : (r : Result (Unit {0}) Stop) (a b c : Option (List ℕ)) (x z : Output) (v : View) (room : ℕ) (events es : List Event) (bad : Option ℕ) (i : ℕ)
-    (e : Event)
-    → slice_get events i ≡ Some e
-    → Keeps a x b (out_seen v room (script_of (drop i events ++ es) bad))
-    → Goes r b (out_seen v room (script_of (e ∷ (drop (i + 1) events ++ es)) bad)) c z → Goes r a x c z
-goes-next r a b c x z v room events es bad i e h before call = goes-more r a b c x _ z (rw (events-cons events es i e h) at before) call
+pub goes-next : (r : Result (Unit {0}) Stop) (a b c : Option (List ℕ)) (x z : Output) (come : List Event → Output) (events es : List Event) (i : ℕ) (e : Event)
+    → slice_get events i ≡ Some e → Keeps a x b (come (drop i events ++ es)) → Goes r b (come (e ∷ (drop (i + 1) events ++ es))) c z → Goes r a x c z
+goes-next r a b c x z come events es i e h before call = goes-more r a b c x _ z (rw (events-cons events es i e h) at before) call
 
 -- the text from i on is the byte at i and what follows it
 pub text-cons : (bytes text : List ℕ) (i : ℕ) → i < length bytes → drop i bytes ++ text ≡ get_or bytes i 0 ∷ (drop (i + 1) bytes ++ text)

@@ -1,6 +1,6 @@
 -- What was written, and what is still to come.
 use Rattle.std.proofs.Common.{◌≡◌, ℕ, ◌+◌, List, [], ◌∷◌, ◌++◌, map, take, drop, Some, None, Option, Ok, Err, Result, refl, sym, ap, subst, ◌∙◌, append_assoc, append-nil, take-add, ◌≤◌, inl, inr, arith}
-use Rattle.std.specs.Prelude.{if◌then◌else◌, true}
+use Rattle.std.specs.Prelude.{if◌then◌else◌, true, OnOk, OnErr}
 use Rattle.edge_io.specs.Outside.{Rose, Appended}
 use Rattle.call_words.specs.declared.event.Event.{Event}
 use Rattle.system_model.specs.State.{View}
@@ -9,7 +9,7 @@ use Rattle.system_laws.specs.Memory.{finds_no_memory}
 use Rattle.script_model.specs.Seen.{with_line}
 use Rattle.tty_host.specs.declared.run.Stop.{Stop}
 use Rattle.tty_host.specs.declared.run.Stop.TheVariants.{BadLine, Full, Failed, NoMemory}
-use Rattle.tty_host.specs.Outputs.{Began, Among, Keeps, status_alone, Goes}
+use Rattle.tty_host.specs.Outputs.{Began, Among, Keeps, behind, status_alone, Goes}
 
 pub appended-none : (a : Option (List ℕ)) → Appended a a []
 appended-none None = tt
@@ -61,19 +61,76 @@ began-more a b c x y h k = record {
 pub began-none : (a : Option (List ℕ)) (bytes : List ℕ) → Began a bytes a
 began-none a bytes = record { wrote = []; left = bytes; appended = appended-none a; whole = refl }
 
--- a line that was written is no longer to come
-pub keeps-line : (a b : Option (List ℕ)) (v : View) (e : Event) (line : List ℕ) (more : Output) → Appended a b line → Keeps a (with_line v e line more) b more
-keeps-line a b v e line more h = record {
-  wrote = line;
-  appended = h;
-  bytes = refl;
+-- a front among some that begin alike
+record IsAmongMapped (bytes : List ℕ) (fronts : List (List ℕ)) (front : List ℕ) : Type 0 where
+  rest : List ℕ
+  among : Among fronts rest
+  is : front ≡ bytes ++ rest
+
+among-of-mapped : (bytes : List ℕ) (fronts : List (List ℕ)) (front : List ℕ) → Among (map (λ f. bytes ++ f) fronts) front → IsAmongMapped bytes fronts front
+among-of-mapped bytes [] front h = absurd h
+among-of-mapped bytes (f ∷ fronts) front (inl is) = record { rest = f; among = inl refl; is = sym is }
+among-of-mapped bytes (f ∷ fronts) front (inr later) =
+    let more = among-of-mapped bytes fronts front later in
+    record { rest = more.rest; among = inr more.among; is = more.is }
+
+-- what is gathered ends with the line
+ends : (before line after more : List ℕ) → after ≡ before ++ line → before ++ (line ++ more) ≡ after ++ more
+ends before line after more h = sym (append_assoc before line more) ∙ ap (λ x. x ++ more) (sym h)
+
+-- a line that was printed stands among what is gathered
+pub keeps-line : (a : Option (List ℕ)) (before after : List ℕ) (v : View) (e : Event) (line : List ℕ) (more : Output) → after ≡ before ++ line
+    → Keeps a (behind before (with_line v e line more)) a (behind after more)
+keeps-line a before after v e line more h = record {
+  wrote = [];
+  appended = appended-none a;
+  bytes = ends before line after more.bytes h;
   status = refl;
-  stops = λ front among. among-behind (stop_before v e) (map (λ f. line ++ f) more.stops) (line ++ front) (among-mapped line more.stops front among);
+  stops = λ front among.
+      let one = among-of-mapped after more.stops front among in
+      let all = stop_before v e ++ map (λ f. line ++ f) more.stops in
+      subst (λ f. Among (map (λ f. before ++ f) all) f) (ends before line after one.rest h ∙ sym one.is)
+      (among-mapped before all (line ++ one.rest) (among-behind (stop_before v e) (map (λ f. line ++ f) more.stops) (line ++ one.rest)
+      (among-mapped line more.stops one.rest one.among)));
 }
 
--- the last line was written
+-- all that was gathered was written
+pub keeps-written : (a b : Option (List ℕ)) (before after : List ℕ) (more : Output) → Appended a b before → after ≡ [] → Keeps a (behind before more) b (behind after more)
+keeps-written a b before after more h none = record {
+  wrote = before;
+  appended = h;
+  bytes = ap (λ g. before ++ (g ++ more.bytes)) (sym none);
+  status = refl;
+  stops = λ front among.
+      let one = among-of-mapped after more.stops front among in
+      subst (λ f. Among (map (λ f. before ++ f) more.stops) f)
+      (ap (λ f. before ++ f) (ap (λ g. g ++ one.rest) (sym none) ∙ sym one.is))
+      (among-mapped before more.stops one.rest one.among);
+}
+
+-- the last line was written, behind what was gathered
 pub keeps-last : (a b : Option (List ℕ)) (out : Output) → Appended a b out.bytes → Keeps a out b (status_alone out.status)
 keeps-last a b out h = record { wrote = out.bytes; appended = h; bytes = sym (append-nil out.bytes); status = refl; stops = λ front among. absurd among }
+
+fronts-none : (fronts : List (List ℕ)) → map (λ front. [] ++ front) fronts ≡ fronts
+fronts-none [] = refl
+fronts-none (front ∷ fronts) = ap (λ fs. front ∷ fs) (fronts-none fronts)
+
+-- nothing is written before what is to come
+pub behind-none : (before : List ℕ) (come : Output) → before ≡ [] → behind before come ≡ come
+behind-none before come none =
+    ap (λ bytes. behind bytes come) none ∙ ap (λ fronts. record { bytes = come.bytes; status = come.status; stops = fronts }) (fronts-none come.stops)
+
+-- nothing was gathered
+pub keeps-nothing : (a b : Option (List ℕ)) (x y : Output) (after : List ℕ) → after ≡ [] → Keeps a x b (behind after y) → Keeps a x b y
+keeps-nothing a b x y after none h = record {
+  wrote = h.wrote;
+  appended = h.appended;
+  bytes = h.bytes ∙ ap (λ g. h.wrote ++ (g ++ y.bytes)) none;
+  status = h.status;
+  stops = λ front among.
+      h.stops front (subst (λ g. Among (map (λ f. g ++ f) y.stops) front) (sym none) (among-mapped [] y.stops front among));
+}
 
 -- what holds before a call and what the call keeps
 pub goes-more : (r : Result (Unit {0}) Stop) (a b c : Option (List ℕ)) (x y z : Output) → Keeps a x b y → Goes r b y c z → Goes r a x c z
@@ -116,15 +173,27 @@ pub goes-failed : (a b : Option (List ℕ)) (x y : Output) → Began a x.bytes b
 unfolding Goes
 goes-failed a b x y h = h
 
--- where memory ran out before the event that comes next
-pub goes-memory : (a : Option (List ℕ)) (v : View) (e : Event) (line : List ℕ) (more y : Output) → finds_no_memory v e ≡ true
-    → Goes (Err NoMemory) a (with_line v e line more) a y
+-- nothing is gathered where a call does not stop the run
+pub goes-nothing : (r : Result (Unit {0}) Stop) (a b : Option (List ℕ)) (x y : Output) (after : List ℕ) → OnOk r (after ≡ []) → Goes r a x b (behind after y)
+    → Goes r a x b y
 unfolding Goes
-goes-memory a v e line more y wants = record {
-  front = [];
-  among = subst (λ b. Among ((if b then [] ∷ [] else []) ++ map (λ f. line ++ f) more.stops) []) (sym wants) (inl refl);
-  appended = appended-none a;
+goes-nothing (Ok u) a b x y after none h = keeps-nothing a b x y after none h
+goes-nothing (Err s) a b x y after none h = goes-stop s a b x (behind after y) y h
+
+-- where memory ran out before the event that comes next, all that was gathered was written
+pub goes-memory : (a b : Option (List ℕ)) (before : List ℕ) (come more : Output) → Among come.stops [] → Appended a b before
+    → Goes (Err NoMemory) a (behind before come) b more
+unfolding Goes
+goes-memory a b before come more among h = record {
+  front = before ++ [];
+  among = among-mapped before come.stops [] among;
+  appended = subst (λ bytes. Appended a b bytes) (sym (append-nil before)) h;
 }
+
+-- memory may run out at an event, before anything of it is written
+pub stops-before : (v : View) (e : Event) (line : List ℕ) (more : Output) → finds_no_memory v e ≡ true → Among (with_line v e line more).stops []
+stops-before v e line more wants =
+    subst (λ b. Among ((if b then [] ∷ [] else []) ++ map (λ f. line ++ f) more.stops) []) (sym wants) (inl refl)
 
 -- the same of what was to come, written another way
 pub goes-at : (r : Result (Unit {0}) Stop) (a b : Option (List ℕ)) (x x' y : Output) → x ≡ x' → Goes r a x' b y → Goes r a x b y
@@ -143,6 +212,17 @@ began-line a b line rest h = record {
   left = h.left ++ rest;
   appended = h.appended;
   whole = ap (λ bs. bs ++ rest) h.whole ∙ append_assoc h.wrote h.left rest;
+}
+
+-- a failed write of what comes after all that was gathered
+pub began-behind : {X E : Type 0} (r : Result X E) (a b c : Option (List ℕ)) (before bytes : List ℕ) → Appended a b before → OnErr r (Began b bytes c)
+    → OnErr r (Began a (before ++ bytes) c)
+began-behind (Ok x) a b c before bytes h began = tt
+began-behind (Err e) a b c before bytes h began = record {
+  wrote = before ++ began.wrote;
+  left = began.left;
+  appended = appended-append a b c before began.wrote h began.appended;
+  whole = ap (λ x. before ++ x) began.whole ∙ sym (append_assoc before began.wrote began.left);
 }
 
 -- a count that rose later rose since

@@ -1,7 +1,7 @@
 -- From a run of what calls see to the promise of the top call.
-use Rattle.std.proofs.Common.{◌≡◌, ℕ, ◌⊎◌, inl, inr, List, [], length, ◌≤◌, Some, None, Option, Ok, Err, Result, refl, sym, ap, arith, le-ltb}
+use Rattle.std.proofs.Common.{◌≡◌, ℕ, ◌⊎◌, inl, inr, List, [], ◌++◌, length, ◌≤◌, Some, None, Option, Ok, Err, Result, refl, sym, ap, arith, le-ltb, ◌∙◌}
 use Rattle.std.specs.Prelude.{IsOk, IsErr}
-use Rattle.script_model.specs.Reading.{reads}
+use Rattle.script_model.specs.Reading.{reads, reads_from}
 use Rattle.user_db.specs.declared.boot.Boot.{Boot}
 use Rattle.user_db.specs.Boot.{boot_of}
 use Rattle.script_model.specs.Script.{Output, text_end, run_out, boot_end, after_boot, script_out}
@@ -11,14 +11,19 @@ use Rattle.tty_host.specs.declared.run.Run.{Run}
 use Rattle.tty_host.specs.declared.status.Status.{Status}
 use Rattle.tty_host.specs.declared.status.Status.TheVariants.{Done, Usage, Input, ReadFault, WriteFault, Memory, Full, NoWorker}
 use Rattle.tty_host.specs.Uses.{SourceUse, SinkUse, SourceFailed, SinkFailed, IsUnread}
-use Rattle.tty_host.specs.Come.{to_come}
+use Rattle.user_db.specs.Lines.{lines}
+use Rattle.script_model.specs.Seen.{out_seen}
+use Rattle.tty_host.specs.Come.{to_come, seen_so_far, events_left}
+use Rattle.tty_host.proofs.OutputLemmas.{behind-none}
 use Rattle.tty_host.specs.Ends.{IsScriptStatus, Writes}
 use Rattle.tty_host.specs.Tops.{IsValid, RanScript}
 
 -- a new run is to write all of the machine's output
 pub start-come : (says : Boot) (run : Run) (text : List ℕ) → run.trail.root ≡ says → run.trail.events ≡ [] → run.number ≡ 1 → run.line.items ≡ []
-    → to_come run text ≡ run_out says (reads text)
-start-come says run text root events number line = rw (root, events, number, line) (sym (run_out-seen says (reads text)))
+    → run.output.items ≡ [] → to_come run text ≡ run_out says (reads text)
+start-come says run text root events number line output =
+    behind-none run.output.items (out_seen (seen_so_far run) (events_left run) (reads_from run.number (lines (run.line.items ++ text)))) output
+    ∙ rw (root, events, number, line) (sym (run_out-seen says (reads text)))
 
 -- over a boot text without a bad line that is the output of the script
 pub good-boot : (boot_text text : List ℕ) (b : Boot) → boot_of boot_text ≡ Ok b → script_out boot_text text ≡ run_out b (reads text)

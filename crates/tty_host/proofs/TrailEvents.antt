@@ -1,7 +1,6 @@
 -- One event more of a trail.
 use Rattle.std.proofs.Common.{◌≡◌, ℕ, ◌+◌, ◌-◌, ◌<◌, ◌≤◌, List, [], ◌∷◌, ◌++◌, Option, Ok, Err, Result, length, get_or, length-append, refl, sym, ap, subst, ◌∙◌, arith}
 use Rattle.std.specs.Prelude.{◌↔◌}
-use Rattle.edge_io.specs.Outside.{Appended}
 use Rattle.call_words.specs.declared.event.Event.{Event}
 use Rattle.call_words.specs.declared.event.Decision.{Decision}
 use Rattle.call_words.specs.declared.event.Wakes.{Wakes}
@@ -15,11 +14,8 @@ use Rattle.system_model.specs.Step.{wakes}
 use Rattle.kern_core.specs.Trails.{state_of, decision_after, wakes_after, wakes_of}
 use Rattle.kern_core.proofs.TrailLemmas.{state_more, seen_more}
 use Rattle.script_text.specs.Answers.{answer_line}
-use Rattle.script_model.specs.Script.{Output}
-use Rattle.script_model.specs.Seen.{out_seen}
-use Rattle.tty_host.specs.declared.run.Stop.TheVariants.{Failed}
-use Rattle.tty_host.specs.Outputs.{Began, Goes}
-use Rattle.tty_host.proofs.OneEvent.{IsAnswered, is_answered, script_of, event-next, event-next-failed}
+use Rattle.script_model.specs.Seen.{out_seen, with_line}
+use Rattle.tty_host.proofs.OneEvent.{IsAnswered, is_answered, script_of, next}
 
 -- what calls see after the events of a trail, and for how many more there is room
 abbrev pub seen : Trail Boot Event → View
@@ -98,18 +94,12 @@ pub is-memory : {D : Type 0} (r : Result D (Refused Event)) (why : Refused Event
     → r ≡ Err (refused.NoMemory e)
 is-memory r why x e is lost event = is ∙ ap Err (lost ∙ ap refused.NoMemory (sym (ap event_of lost) ∙ event))
 
--- ---- what is written
+-- ---- what is still written
 
-pub trail-next : (old new : Trail Boot Event) (e : Event) (d : Decision) (w : Wakes) (es : List Event) (bad : Option ℕ) (a b : Option (List ℕ)) (line : List ℕ)
-    → Took old new e d w → line ≡ answer_line e d (wake_list w) → 0 < left old → Appended a b line
-    → Goes (Ok tt) a (out_seen (seen old) (left old) (script_of (e ∷ es) bad)) b (out_seen (seen new) (left new) (script_of es bad))
-trail-next old new e d w es bad a b line took printed some appended =
-    subst (λ n. Goes (Ok tt) a (out_seen (seen old) (left old) (script_of (e ∷ es) bad)) b (out_seen (seen new) n (script_of es bad)))
-    (sym (left-after old new e took.trail))
-    (event-next (seen old) (seen new) (left old) e es bad a b line some (answered old new e d w line took printed) appended)
-
-pub trail-failed : (old new : Trail Boot Event) (e : Event) (d : Decision) (w : Wakes) (es : List Event) (bad : Option ℕ) (a b : Option (List ℕ)) (y : Output)
-    (line : List ℕ) → Took old new e d w → line ≡ answer_line e d (wake_list w) → 0 < left old → Began a line b
-    → Goes (Err Failed) a (out_seen (seen old) (left old) (script_of (e ∷ es) bad)) b y
-trail-failed old new e d w es bad a b y line took printed some began =
-    event-next-failed (seen old) (seen new) (left old) e es bad a b y line some (answered old new e d w line took printed) began
+-- the answer comes first, and then what the other events are answered
+pub trail-next : (old new : Trail Boot Event) (e : Event) (d : Decision) (w : Wakes) (es : List Event) (bad : Option ℕ) (line : List ℕ)
+    → Took old new e d w → line ≡ answer_line e d (wake_list w) → 0 < left old
+    → out_seen (seen old) (left old) (script_of (e ∷ es) bad) ≡ with_line (seen old) e line (out_seen (seen new) (left new) (script_of es bad))
+trail-next old new e d w es bad line took printed some =
+    next (seen old) (seen new) (left old) e es bad line some (answered old new e d w line took printed)
+    ∙ ap (λ n. with_line (seen old) e line (out_seen (seen new) n (script_of es bad))) (sym (left-after old new e took.trail))

@@ -9,6 +9,7 @@ use Rattle.system_model.specs.State.{View, view}
 use Rattle.kern_core.specs.Trails.{state_of}
 use Rattle.script_model.specs.Seen.{out_seen}
 use Rattle.tty_host.specs.declared.run.Run.{Run}
+use Rattle.tty_host.specs.Outputs.{behind}
 
 -- what calls see after the events so far
 abbrev pub seen_so_far : Run → View
@@ -18,13 +19,13 @@ seen_so_far run = view (state_of run.trail.root run.trail.events)
 abbrev pub events_left : Run → ℕ
 events_left run = TRAIL_EVENTS - length run.trail.events
 
--- where these events are asked, and then a bad line comes or none
+-- the answers that are gathered, and what is answered where these events are asked, and then a bad line comes or none
 abbrev pub come : Run → List Event → Option ℕ → Output
-come run events bad = out_seen (seen_so_far run) (events_left run) (record { events = events; bad = bad })
+come run events bad = behind run.output.items (out_seen (seen_so_far run) (events_left run) (record { events = events; bad = bad }))
 
--- where these lines come, of which the first has the run's number
+-- the same where these lines come, of which the first has the run's number
 abbrev pub lines_come : Run → List (List ℕ) → Output
-lines_come run ls = out_seen (seen_so_far run) (events_left run) (reads_from run.number ls)
+lines_come run ls = behind run.output.items (out_seen (seen_so_far run) (events_left run) (reads_from run.number ls))
 
 -- where this text follows the bytes of the line so far
 abbrev pub to_come : Run → List ℕ → Output

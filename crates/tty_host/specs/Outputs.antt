@@ -1,5 +1,5 @@
 -- What was written, and what is still to come.
-use Rattle.std.specs.Prelude.{◌≡◌, ◌⊎◌, ℕ, List, [], ◌∷◌, ◌++◌, Option, Result, Ok, Err}
+use Rattle.std.specs.Prelude.{◌≡◌, ◌⊎◌, ℕ, List, [], ◌∷◌, ◌++◌, map, Option, Result, Ok, Err}
 use Rattle.edge_io.specs.Outside.{Appended}
 use Rattle.script_model.specs.Script.{Output}
 use Rattle.tty_host.specs.declared.run.Stop.{Stop}
@@ -30,6 +30,10 @@ pub record Keeps (before : Option (List ℕ)) (come : Output) (after : Option (L
   pub bytes : come.bytes ≡ wrote ++ more.bytes
   pub status : come.status ≡ more.status
   pub stops : (front : List ℕ) → Among more.stops front → Among come.stops (wrote ++ front)
+
+-- these bytes are written before the rest
+abbrev pub behind : List ℕ → Output → Output
+behind bytes more = record { bytes = bytes ++ more.bytes; status = more.status; stops = map (λ front. bytes ++ front) more.stops }
 
 -- nothing is still to come but the status
 abbrev pub status_alone : ℕ → Output

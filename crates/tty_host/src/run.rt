@@ -7,14 +7,17 @@ ghost use Rattle.user_db.specs.Boot.{IsBoot};
 ghost use Rattle.call_words.specs.Events.{MayBeUsed};
 ghost use Rattle.script_model.specs.Script.{Output, text_end, full_end};
 ghost use Rattle.sys_types.specs.declared.limits.TheConstants.{TRAIL_EVENTS};
-ghost use Rattle.tty_host.specs.Outputs.{Began, Goes};
+ghost use Rattle.tty_host.specs.Outputs.{Began, Among, behind, Goes};
+ghost use Rattle.system_model.specs.State.{View};
+ghost use Rattle.script_model.specs.Seen.{with_line};
 ghost use Rattle.tty_host.specs.Ends.{IsScriptStatus, stop_status};
 ghost use Rattle.tty_host.specs.OneLine.{is_one_line};
+ghost use Rattle.tty_host.specs.declared.run.TheConstants.{OUTPUT_BYTES};
 
 use crate::print::bad_line;
 use crate::status::Status;
 use arrayvec::ArrayVec;
-use call_words::{Event, PIECE_BYTES, SCRIPT_LINE_BYTES, Wakes};
+use call_words::{Event, SCRIPT_LINE_BYTES, Wakes, push_bytes};
 use edge_io::{Failed, Sink, Source};
 use kern_core::{Kernel, NoMemory, boot_trail};
 use script_text::{AnswerLine, Events, print_answer, read_event_line};
@@ -45,14 +48,21 @@ impl Stop {
     }
 }
 
+/// How many bytes of the text one read takes at most.
+const READ_BYTES: usize = 16_384;
+
+/// How many bytes of answers are gathered at most before they are written.
+const OUTPUT_BYTES: usize = 65_536;
+
 /// A run: the kernel with the trail of its events, the number of the line that is being read, what
-/// has come of it, and the room in which answers are printed.
+/// has come of it, the room in which an answer is printed, and the answers that are not written yet.
 #[derive(Drop)]
 pub struct Run {
     pub trail: Recorded<Kernel>,
     pub number: u32,
     pub line: ArrayVec<u8, SCRIPT_LINE_BYTES>,
     pub answer: AnswerLine,
+    pub output: ArrayVec<u8, OUTPUT_BYTES>,
     ghost most: { trail.most ≡ TRAIL_EVENTS },
     ghost fits: { length trail.events ≤ TRAIL_EVENTS },
     ghost within: { number ≤ length trail.events + 1 },
@@ -75,18 +85,6 @@ pub fn write_all<K: Sink>(out: &mut K, bytes: &[u8]) -> Result<(), Failed>
     Ok(())
 }
 
-/// Ends a run in which one event more is asked than a trail has.
-fn stop_full<K: Sink>(out: &mut K) -> Stop
-    ensures goes { (more : Output) → Goes (Err result) (K.written out.old) full_end (K.written out.new) more }
-    ensures failed { result ≡ Stop.Failed → Rose (K.faults out.old) (K.faults out.new) }
-    ensures grows { K.faults out.old ≤ K.faults out.new }
-{
-    match write_all(out, b"full\n") {
-        Ok(()) => Stop::Full,
-        Err(Failed) => Stop::Failed,
-    }
-}
-
 impl Run {
     ghost use Rattle.tty_host.specs.Come.{come, lines_come, to_come, events_left, budget};
     ghost use Rattle.tty_host.specs.Outputs.{status_alone};
@@ -99,6 +97,7 @@ impl Run {
         ensures events { IfOk result (λ run. run.trail.events ≡ []) }
         ensures number { IfOk result (λ run. run.number ≡ 1) }
         ensures line { IfOk result (λ run. run.line.items ≡ []) }
+        ensures output { IfOk result (λ run. run.output.items ≡ []) }
     {
         let trail = boot_trail(alloc, says)?;
         Ok(Run {
@@ -106,10 +105,105 @@ impl Run {
             number: 1,
             line: ArrayVec::new(),
             answer: AnswerLine::new(),
+            output: ArrayVec::new(),
         })
     }
 
-    /// Runs one event and writes its answer.
+    /// Writes all answers that are gathered.
+    fn flush<K: Sink>(&mut self, out: &mut K) -> Result<(), Stop>
+        ensures goes { (more : Output) → Goes result
+            (K.written out.old) (behind self.old.output.items more)
+            (K.written out.new) (behind self.new.output.items more) }
+        ensures none { OnOk result (self.new.output.items ≡ []) }
+        ensures trail { self.new.trail ≡ self.old.trail }
+        ensures number { self.new.number ≡ self.old.number }
+        ensures line { self.new.line ≡ self.old.line }
+        ensures answer { self.new.answer ≡ self.old.answer }
+        ensures failed { OnErr result (Rose (K.faults out.old) (K.faults out.new)) }
+        ensures grows { K.faults out.old ≤ K.faults out.new }
+    {
+        if let Err(Failed) = write_all(out, self.output.as_slice()) {
+            return Err(Stop::Failed);
+        }
+        self.output.clear();
+        Ok(())
+    }
+
+    /// Ends the run by its last line, behind all answers that are gathered.
+    fn write_last<K: Sink>(&self, last: &[u8], out: &mut K) -> Result<(), Failed>
+        ensures ok { OnOk result (Appended (K.written out.old) (K.written out.new) (self.now.output.items ++ last.now)) }
+        ensures began { OnErr result (Began (K.written out.old) (self.now.output.items ++ last.now) (K.written out.new)) }
+        ensures failed { OnErr result (Rose (K.faults out.old) (K.faults out.new)) }
+        ensures grows { K.faults out.old ≤ K.faults out.new }
+    {
+        match write_all(out, self.output.as_slice()) {
+            Ok(()) => write_all(out, last),
+            Err(failed) => Err(failed),
+        }
+    }
+
+    /// Ends a run in which one event more is asked than a trail has.
+    fn stop_full<K: Sink>(&self, out: &mut K) -> Stop
+        ensures goes { (more : Output) → Goes (Err result)
+            (K.written out.old) (behind self.now.output.items full_end) (K.written out.new) more }
+        ensures failed { result ≡ Stop.Failed → Rose (K.faults out.old) (K.faults out.new) }
+        ensures grows { K.faults out.old ≤ K.faults out.new }
+    {
+        match self.write_last(b"full\n", out) {
+            Ok(()) => Stop::Full,
+            Err(Failed) => Stop::Failed,
+        }
+    }
+
+    /// Ends a run in which memory ran out before an event, behind all answers that are gathered.
+    fn stop_memory<K: Sink>(&self, out: &mut K) -> Stop
+        ensures goes { (come more : Output) → Among come.stops [] → Goes (Err result)
+            (K.written out.old) (behind self.now.output.items come) (K.written out.new) more }
+        ensures failed { result ≡ Stop.Failed → Rose (K.faults out.old) (K.faults out.new) }
+        ensures grows { K.faults out.old ≤ K.faults out.new }
+    {
+        match self.write_last(b"", out) {
+            Ok(()) => Stop::NoMemory,
+            Err(Failed) => Stop::Failed,
+        }
+    }
+
+    /// Writes the answers that are gathered, where the one that is printed has no room behind them.
+    fn make_room<K: Sink>(&mut self, out: &mut K) -> Result<(), Stop>
+        ensures goes { (more : Output) → Goes result
+            (K.written out.old) (behind self.old.output.items more)
+            (K.written out.new) (behind self.new.output.items more) }
+        ensures room { OnOk result (array_vec_len self.new.output + array_vec_len self.old.answer ≤ OUTPUT_BYTES) }
+        ensures trail { self.new.trail ≡ self.old.trail }
+        ensures number { self.new.number ≡ self.old.number }
+        ensures line { self.new.line ≡ self.old.line }
+        ensures answer { self.new.answer ≡ self.old.answer }
+        ensures failed { OnErr result (Rose (K.faults out.old) (K.faults out.new)) }
+        ensures grows { K.faults out.old ≤ K.faults out.new }
+    {
+        if self.output.remaining_capacity() >= self.answer.len() {
+            return Ok(());
+        }
+        self.flush(out)
+    }
+
+    /// Adds the answer that is printed to those that are gathered.
+    fn gather<K: Sink>(&mut self, out: &mut K) -> Result<(), Stop>
+        ensures goes { (v : View) (e : Event) (more : Output) → Goes result
+            (K.written out.old) (behind self.old.output.items (with_line v e self.old.answer.items more))
+            (K.written out.new) (behind self.new.output.items more) }
+        ensures trail { self.new.trail ≡ self.old.trail }
+        ensures number { self.new.number ≡ self.old.number }
+        ensures line { self.new.line ≡ self.old.line }
+        ensures failed { OnErr result (Rose (K.faults out.old) (K.faults out.new)) }
+        ensures grows { K.faults out.old ≤ K.faults out.new }
+    {
+        self.make_room(out)?;
+        push_bytes(&mut self.output, self.answer.as_slice());
+        Ok(())
+    }
+
+    /// Runs one event, and prints its answer.
     fn run_event<K: Sink>(&mut self, event: Event, out: &mut K) -> Result<(), Stop>
         requires { MayBeUsed event }
         ensures goes { (es : List Event) (bad : Option ℕ) → Goes result
@@ -124,8 +218,8 @@ impl Run {
         let mut wakes = Wakes::none();
         let decision = match self.trail.apply(event, &mut wakes) {
             Ok(decision) => decision,
-            Err(Refused::Full(_)) => return Err(stop_full(out)),
-            Err(Refused::NoMemory(_)) => return Err(Stop::NoMemory),
+            Err(Refused::Full(_)) => return Err(self.stop_full(out)),
+            Err(Refused::NoMemory(_)) => return Err(self.stop_memory(out)),
         };
         self.answer.clear();
         let events = self.trail.events();
@@ -135,10 +229,7 @@ impl Run {
             &wakes,
             &mut self.answer,
         );
-        match write_all(out, self.answer.as_slice()) {
-            Ok(()) => Ok(()),
-            Err(Failed) => Err(Stop::Failed),
-        }
+        self.gather(out)
     }
 
     /// Runs the events of a line.
@@ -161,11 +252,11 @@ impl Run {
     /// Ends the run at a bad line.
     fn stop_at_line<K: Sink>(&self, out: &mut K) -> Stop
         ensures goes { (more : Output) → Goes (Err result)
-            (K.written out.old) (text_end (Some self.now.number)) (K.written out.new) more }
+            (K.written out.old) (behind self.now.output.items (text_end (Some self.now.number))) (K.written out.new) more }
         ensures failed { result ≡ Stop.Failed → Rose (K.faults out.old) (K.faults out.new) }
         ensures grows { K.faults out.old ≤ K.faults out.new }
     {
-        match write_all(out, bad_line(self.number).as_slice()) {
+        match self.write_last(bad_line(self.number).as_slice(), out) {
             Ok(()) => Stop::BadLine,
             Err(Failed) => Stop::Failed,
         }
@@ -209,7 +300,7 @@ impl Run {
         Ok(())
     }
 
-    /// Takes the next bytes of the text.
+    /// Takes the next bytes of the text, and writes all answers to them.
     fn feed_all<K: Sink>(&mut self, bytes: &[u8], out: &mut K) -> Result<(), Stop>
         ensures goes { (text : List ℕ) → Goes result
             (K.written out.old) (to_come self.old (bytes.now ++ text))
@@ -221,10 +312,10 @@ impl Run {
         for byte in bytes {
             self.feed(*byte, out)?;
         }
-        Ok(())
+        self.flush(out)
     }
 
-    /// Ends the text. Its last line may lack the newline.
+    /// Ends the text, of which the last line may lack the newline, and writes all answers that are gathered.
     fn finish<K: Sink>(&mut self, out: &mut K) -> Result<(), Stop>
         ensures goes { Goes result
             (K.written out.old) (to_come self.old []) (K.written out.new) (status_alone 0) }
@@ -232,12 +323,13 @@ impl Run {
         ensures grows { K.faults out.old ≤ K.faults out.new }
     {
         if self.line.is_empty() {
-            return Ok(());
+            return self.flush(out);
         }
-        self.end_line(out)
+        self.end_line(out)?;
+        self.flush(out)
     }
 
-    /// Takes all of a source, and ends the run.
+    /// Takes all of a source, and ends the run. All answers to what was read are written before the next read.
     pub fn run_source<S: Source, K: Sink>(mut self, src: &mut S, out: &mut K) -> Status
         ensures writes { (text : List ℕ) → S.left src.old ≡ Some text →
             Writes result (to_come self text) (K.written out.old) (K.written out.new) }
@@ -246,7 +338,7 @@ impl Run {
         ensures write_fault { result ≡ Status.WriteFault → Rose (K.faults out.old) (K.faults out.new) }
         ensures others { IsScriptStatus result }
     {
-        let mut buffer = [0; PIECE_BYTES];
+        let mut buffer = [0; READ_BYTES];
         loop {
             let Ok(count) = src.read(&mut buffer) else {
                 return Status::ReadFault;

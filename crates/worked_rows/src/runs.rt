@@ -115,8 +115,11 @@ const FAULTS: &str = "
 # The boot text of a file, and none.
 script b^^0 open /dev/tty7 rw|0 write 0 6869|take tty7 9|^0 ok 0|0 ok 2|tty7 out 6869|^0
 script^^0 open /dev/tty7 rw|0 write 0 6869|take tty7 9|^0 ok 0|0 ok 2|tty7 out 6869|^0
-# The sink fails at its second call and at its first, the script at its first and the boot source; a sink takes nine bytes.
-script b^^0 open /dev/tty7 rw|0 write 0 6869|take tty7 9|^0 ok 0|^4 0 0 2
+# The sink fails at its second call: answers are written before each read of the script, which takes at most 16,384 bytes.
+script b^^~0 sigtake|*3000~^~0 ok 0|*1638~^4 0 0 2
+# So is the script, at its second call: all answers to what was read are written.
+script b^^~0 sigtake|*3000~^~0 ok 0|*1638~^3 0 2
+# The sink fails at its first call, and the script at its first and the boot source; a sink takes nine bytes.
 script b^^0 open /dev/tty7 rw|0 write 0 6869|take tty7 9|^^4 0 0 1
 script b^^0 open /dev/tty7 rw|0 write 0 6869|take tty7 9|^^3 0 1
 script b^^0 open /dev/tty7 rw|0 write 0 6869|take tty7 9|^^3 1

@@ -1,6 +1,7 @@
 use Rattle.std.proofs.Common.{◌≡◌, ◌<◌, ◌++◌, ◌∷◌, [], length, ap, ◌∙◌, sym, arith, length-append, eqb-true, append_assoc}
 use Rattle.user_db.specs.Lines.{lines}
 use Rattle.tty_host.specs.Come.{lines_come, seen_so_far, events_left}
+use Rattle.tty_host.specs.Outputs.{behind}
 use Rattle.tty_host.proofs.OutputLemmas.{goes-at, goes-ok, keeps-same}
 use Rattle.tty_host.proofs.LinesCome.{lines-newline, one_line-byte, long-line, goes-emptied}
 use Rattle.tty_host.proofs.run.Run.feed.Goals as goal
@@ -21,7 +22,7 @@ returns-then-is_full-clause-goes g c = λ text.
     let one = one_line-byte self.line.items c.args.byte self.one_line c.if-byte-eq10.false in
     goes-at _ _ _ _ _ _
     (ap (λ bs. lines_come self (lines bs)) (sym (append_assoc self.line.items (c.args.byte ∷ []) text))
-    ∙ long-line (seen_so_far self) (events_left self) self.number line text one long)
+    ∙ ap (λ out. behind self.output.items out) (long-line (seen_so_far self) (events_left self) self.number line text one long))
     (c.stop_at_line.ensures.goes _)
 
 pub returns-clause-goes : goal.returns-clause-goes

@@ -1,8 +1,12 @@
 use Rattle.std.proofs.Common.{◌+◌, ◌++◌, ◌≤◌, length, drop, ap, arith, drop_of_length-le}
 use Rattle.std.proofs.lemmas.Result.{err_from_is_err_and}
-use Rattle.tty_host.specs.Come.{to_come}
-use Rattle.tty_host.proofs.OutputLemmas.{keeps-same, keeps-more, keeps-at, keeps-ok, goes-more, goes-at, goes-stop, goes-ok, rose-later}
+use Rattle.user_db.specs.Lines.{lines}
+use Rattle.script_model.specs.Reading.{reads_from}
+use Rattle.script_model.specs.Seen.{out_seen}
+use Rattle.tty_host.specs.Come.{to_come, seen_so_far, events_left}
+use Rattle.tty_host.proofs.OutputLemmas.{keeps-same, keeps-more, keeps-at, keeps-ok, goes-more, goes-at, goes-stop, goes-to, rose-later}
 use Rattle.tty_host.proofs.OneEvent.{text-cons}
+use Rattle.tty_host.proofs.LinesCome.{same-come}
 use Rattle.tty_host.proofs.run.Run.feed_all.Goals as goal
 
 pub loop-byte-init : goal.loop-byte-init
@@ -43,5 +47,9 @@ loop-byte-preserved g c =
 
 pub returns-clause-goes : goal.returns-clause-goes
 returns-clause-goes g c = λ text.
+    let old = c.loop-byte.self in
+    let new = c.flush.new.self in
     let out : length c.args.bytes.now ≤ c.loop-byte.byte-index = omega arith in
-    goes-ok _ _ _ _ (rw (drop_of_length-le c.args.bytes.now out) at (c.loop-byte.invariant.keeps text))
+    goes-more _ _ _ _ _ _ _ (rw (drop_of_length-le c.args.bytes.now out) at (c.loop-byte.invariant.keeps text))
+    (goes-to _ _ _ _ _ _ (same-come old new text c.flush.ensures.trail c.flush.ensures.number c.flush.ensures.line)
+    (c.flush.ensures.goes (out_seen (seen_so_far old) (events_left old) (reads_from old.number (lines (old.line.items ++ text))))))

@@ -1,5 +1,6 @@
 use Rattle.std.proofs.Common.{◌≤◌, length, ◌∙◌, arith, refl, drop_of_length-le}
 use Rattle.std.proofs.lemmas.Result.{err_from_is_err_and}
+use Rattle.tty_host.specs.Come.{come}
 use Rattle.tty_host.proofs.OutputLemmas.{keeps-same, goes-stop, goes-ok, keeps-ok, rose-later}
 use Rattle.tty_host.proofs.OneEvent.{keeps-next, goes-next}
 use Rattle.tty_host.proofs.run.Run.run_events.Goals as goal
@@ -12,7 +13,7 @@ returns-in_err-run_event-clause-goes g c = λ es bad.
     let same = err_from_is_err_and c.from_residual.result c.from_residual.ensures.1 in
     rw (same.1, same.2)
     (goes-stop c.in_err-run_event.field-0.0 _ _ _ _ _
-    (goes-next _ _ _ _ _ _ _ _ c.args.events.now es bad c.loop-i.i c.get.result c.get.ensures (c.loop-i.invariant.keeps es bad)
+    (goes-next _ _ _ _ _ _ (λ es. come c.loop-i.self es bad) c.args.events.now es c.loop-i.i c.get.result c.get.ensures (c.loop-i.invariant.keeps es bad)
     (c.in_err-run_event.ensures.goes _ bad)))
 
 pub returns-in_err-run_event-clause-number : goal.returns-in_err-run_event-clause-number
@@ -34,7 +35,8 @@ loop-i-preserved g c =
     let grows = c.in_ok-run_event.ensures.grows in
     record {
       keeps =
-          λ es bad. keeps-next _ _ _ _ _ _ _ c.args.events.now es bad c.loop-i.i c.get.result c.get.ensures (c.loop-i.invariant.keeps es bad)
+          λ es bad. keeps-next _ _ _ _ _ (λ es. come c.loop-i.self es bad) c.args.events.now es c.loop-i.i c.get.result c.get.ensures
+          (c.loop-i.invariant.keeps es bad)
           (keeps-ok _ _ _ _ _ (c.in_ok-run_event.ensures.goes _ bad));
       room = omega (arith, room, c.loop-i.invariant.room);
       number = number ∙ c.loop-i.invariant.number;

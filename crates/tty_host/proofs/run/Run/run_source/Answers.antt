@@ -1,8 +1,13 @@
 use Rattle.std.proofs.Common.{ap, arith}
 use Rattle.tty_host.specs.Come.{to_come}
-use Rattle.tty_host.proofs.OutputLemmas.{keeps-more, keeps-at, keeps-ok, goes-more, goes-at}
+use Rattle.tty_host.proofs.OutputLemmas.{began-more, began-none, keeps-more, keeps-at, keeps-ok, goes-more, goes-at}
 use Rattle.tty_host.proofs.SourceLemmas.{gave-took, writes-stop, writes-done}
 use Rattle.tty_host.proofs.run.Run.run_source.Goals as goal
+
+pub returns-in_default-clause-writes : goal.returns-in_default-clause-writes
+returns-in_default-clause-writes g c = λ text left.
+    let kept = c.loop-count.invariant.keeps text left in
+    began-more _ _ _ _ _ kept.1.1 (began-none _ _)
 
 pub returns-in-Err-clause-writes : goal.returns-in-Err-clause-writes
 returns-in-Err-clause-writes g c = λ text left.
