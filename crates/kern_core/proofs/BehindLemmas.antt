@@ -1,6 +1,6 @@
 -- What stands before and behind a call.
 use Rattle.std.proofs.Common.{◌≡◌, ℕ, Bool, true, false, cond, List, [], ◌∷◌, ◌++◌, map, Option, Some, None, option_map, refl, sym, ap, ◌∙◌}
-use Rattle.std.specs.Prelude.{is_some, unwrap_or, Result, Ok, Err, IfOk, OnErr, option_copied}
+use Rattle.std.specs.Prelude.{is_some, unwrap_or, Result, Ok, Err, OnErr, option_copied}
 use Rattle.sys_types.specs.declared.rules.Rule.TheVariants.{Asleep, Awake}
 use Rattle.call_words.specs.declared.call.Call.{Call}
 use Rattle.call_words.specs.declared.event.Event.{Event}
@@ -25,10 +25,6 @@ use Rattle.system_model.proofs.SeenProcesses.{caller_seen}
 use Rattle.system_laws.proofs.Runs.{change_more}
 use Rattle.kern_core.specs.Pending.{is_sleep}
 use Rattle.kern_core.proofs.SlotLemmas.{pending_is, running_is, halted_is}
-
-pub ok_more : {T E : Type 0} {P Q : T → Type 0} (r : Result T E) → ((x : T) → P x → Q x) → IfOk r P → IfOk r Q
-ok_more (Ok x) more is = more x is
-ok_more (Err e) more is = is
 
 -- ---- a process that is stopped
 
@@ -176,10 +172,6 @@ pub retry_awake : (v : View) (slot : ℕ) (who : Process Path) (pending : Option
 retry_awake v slot who pending none = rw none (refuses v (retry_row v slot who None) Awake refl)
 
 -- ---- a system that is halted, and one that is not
-
-pub err_more : {T E : Type 0} {P Q : Type 0} (r : Result T E) → (P → Q) → OnErr r P → OnErr r Q
-err_more (Ok x) more is = is
-err_more (Err e) more is = more is
 
 pub err_any : {T E : Type 0} {P : Type 0} (r : Result T E) → P → OnErr r P
 err_any (Ok x) is = tt

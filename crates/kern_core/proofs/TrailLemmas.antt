@@ -1,17 +1,16 @@
 -- The run of a list of events, one event after another.
-use Rattle.std.proofs.Common.{◌≡◌, ℕ, suc, ◌+◌, List, [], ◌∷◌, ◌++◌, Result, Ok, Err, length, length-append, refl, sym, ap, subst, ◌∙◌, arith}
-use Rattle.std.specs.Prelude.{IfOk, OnOk}
+use Rattle.std.proofs.Common.{◌≡◌, ℕ, suc, ◌+◌, List, [], ◌∷◌, ◌++◌, length, length-append, sym, ap, subst, ◌∙◌, arith}
 use Rattle.call_words.specs.declared.event.Event.{Event}
 use Rattle.call_words.specs.declared.event.Decision.{Decision}
 use Rattle.user_db.specs.declared.boot.Boot.{Boot}
-use Rattle.system_model.specs.State.{State, View, view, boot}
+use Rattle.system_model.specs.State.{State, view, boot}
 use Rattle.system_model.specs.Step.{step, view_after}
 use Rattle.system_model.specs.Run.{state_from}
 use Rattle.system_model.specs.Tables.{Tables, view_of}
 use Rattle.system_laws.specs.Stands.{Stands, Within}
 use Rattle.system_laws.proofs.Runs.{step_seen, step_within, boot_within}
 use Rattle.kern_core.specs.Bounds.{IsAfter}
-use Rattle.kern_core.specs.Trails.{Booted, StandsFor, state_of}
+use Rattle.kern_core.specs.Trails.{StandsFor, state_of}
 
 -- the state after one event more
 from-last : (s : State) (p : ℕ) (es : List Event) (e : Event) → state_from s p (es ++ e ∷ []) ≡ (step (state_from s p es) (p + length es) e).0
@@ -53,12 +52,11 @@ pub seen_more : (says : Boot) (es : List Event) (e : Event) → view (state_of s
 seen_more says es e = ap view (state_more says es e) ∙ step_seen (state_of says es) (length es) e (run_within says es)
 
 -- a kernel that stood for some events stands for these and the one that it took
-pub stands_more : {E : Type 0} (r : Result Decision E) (says : Boot) (old new : Tables) (e : Event)
-    → IfOk r (λ d. (n : ℕ) (s : State) → Stands (view_of old) n s → Stands (view_of new) (n + 1) (step s (n + 1) e).0 × (d ≡ (step s (n + 1) e).1))
-    → OnOk r ((n : ℕ) → IsAfter n old → IsAfter (n + 1) new) → (es : List Event) → StandsFor (record { says = says; tables = old }) es
-    → OnOk r (StandsFor (record { says = says; tables = new }) (es ++ e ∷ []))
-stands_more (Err x) says old new e stands after es before = tt
-stands_more (Ok d) says old new e stands after es before =
+pub stands_more : (says : Boot) (old new : Tables) (e : Event) (d : Decision)
+    → ((n : ℕ) (s : State) → Stands (view_of old) n s → Stands (view_of new) (n + 1) (step s (n + 1) e).0 × (d ≡ (step s (n + 1) e).1))
+    → ((n : ℕ) → IsAfter n old → IsAfter (n + 1) new) → (es : List Event) → StandsFor (record { says = says; tables = old }) es
+    → StandsFor (record { says = says; tables = new }) (es ++ e ∷ [])
+stands_more says old new e d stands after es before =
     let count : length (es ++ e ∷ []) ≡ length es + 1 = length-append es (e ∷ []) in
     record {
       state = subst (λ n. Stands (view_of new) n (state_of says (es ++ e ∷ []))) (sym count)

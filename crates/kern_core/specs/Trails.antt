@@ -1,5 +1,5 @@
 -- For which lists of events a kernel stands, and what it makes of the next one: a run of the machine from its boot.
-use Rattle.std.specs.Prelude.{◌≡◌, ℕ, ◌+◌, true, is_some, List, [], length}
+use Rattle.std.specs.Prelude.{◌≡◌, ◌+◌, true, is_some, List, [], length}
 use Rattle.call_words.specs.declared.call.Call.{Call}
 use Rattle.call_words.specs.declared.call.Call.TheVariants as call
 use Rattle.call_words.specs.declared.event.Event.{Event}

@@ -1,5 +1,5 @@
 //! Each call to the function of its name.
-ghost use Rattle.std.specs.Prelude.{◌≡◌, true, IfOk, OnErr, None};
+ghost use Rattle.std.specs.Prelude.{◌≡◌, true, OnOk, OnErr, None};
 ghost use Rattle.call_words.specs.Calls.{HasFitMode};
 ghost use Rattle.system_model.specs.Fit.{IsCaller};
 ghost use Rattle.system_model.specs.Rows.{Does, first};
@@ -15,17 +15,22 @@ use vnode_tree::NoMemory;
 impl System {
     /// A call of a process that is not stopped.
     #[tactic(auto, using(crate::proofs::BoundLemmas::none_once))]
-    pub(crate) fn do_call(&mut self, slot: u8, call: &Call) -> Result<Decision, NoMemory>
+    pub(crate) fn do_call(
+        &mut self,
+        slot: u8,
+        call: &Call,
+        decision: &mut Decision,
+    ) -> Result<(), NoMemory>
         requires caller { IsCaller self.old.processes slot }
         requires mode { HasFitMode call.now }
         requires room { HasRoom self.old }
-        ensures does { IfOk result (λ decision. Does (view_of self.old) (view_of self.new) decision (call_row (view_of self.old) slot call.now)) }
+        ensures does { OnOk result (Does (view_of self.old) (view_of self.new) decision.new (call_row (view_of self.old) slot call.now)) }
         ensures revokes { RevokesOnce self.old self.new }
         ensures nothing { OnErr result (self.new ≡ self.old) }
         ensures memory { OnErr result (wants_memory (view_of self.old) slot call.now ≡ true) }
         ensures free { OnErr result (first (call_row (view_of self.old) slot call.now).checks ≡ None) }
     {
-        let decision = match call {
+        *decision = match call {
             Call::Open {
                 path,
                 access,
@@ -36,7 +41,7 @@ impl System {
             Call::Dup { fd } => self.dup(slot, *fd),
             Call::Dup2 { fd, to } => self.dup2(slot, *fd, *to),
             Call::Read { fd, max } => self.read(slot, *fd, *max),
-            Call::Write { fd, bytes } => return self.write(slot, *fd, bytes),
+            Call::Write { fd, bytes } => self.write(slot, *fd, bytes)?,
             Call::Pipe => self.pipe(slot),
             Call::Chdir { path } => self.chdir(slot, path),
             Call::Mkdir { path, mode } => self.mkdir(slot, path, *mode),
@@ -77,6 +82,6 @@ impl System {
             Call::FdName { fd } => self.fdname(slot, *fd),
             Call::Revoke { path } => self.revoke(slot, path),
         };
-        Ok(decision)
+        Ok(())
     }
 }

@@ -90,7 +90,9 @@ impl Machine for Kernel {
     ghost no_wakeups = { nobody };
 
     fn step(&mut self, _pos: u32, event: &Event, wakes: &mut Wakes) -> Result<Decision, NoMemory> {
-        self.system.step(event, wakes)
+        let mut decision = Decision::Noted;
+        self.system.step(event, &mut decision, wakes)?;
+        Ok(decision)
     }
 
     fn no_wakes() -> Wakes {

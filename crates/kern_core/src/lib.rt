@@ -17,6 +17,7 @@ mod pending;
 mod procs;
 mod step;
 mod system;
+mod tell;
 mod ttys;
 mod wakeups;
 

@@ -5,5 +5,5 @@ use Rattle.kern_core.proofs.kernel.KernelMachine.step.Goals as goal
 
 pub returns-clause-stands : goal.returns-clause-stands
 returns-clause-stands c = λ es stands at.
-    stands_more c.step.result _ _ _ c.args.event.now c.step.ensures.stands c.step.ensures.after es
+    stands_more _ _ _ c.args.event.now c.step.new.decision c.in_ok-step.ensures.stands c.in_ok-step.ensures.after es
     (subst (λ k. StandsFor k es) (sym c.self.view_is) stands)

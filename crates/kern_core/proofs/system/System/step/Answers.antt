@@ -4,18 +4,18 @@ use Rattle.kern_core.proofs.system.System.step.Goals as goal
 
 pub work_endings-requires-clause-running : goal.work_endings-requires-clause-running
 work_endings-requires-clause-running c =
-    row_leaves c.args.self.now c.do_event.new.self c.args.event.now c.requires.left.after.ending c.in_ok-decision.ensures.does.state
+    row_leaves c.args.self.now c.do_event.new.self c.args.event.now c.requires.left.after.ending c.in_ok-do_event.ensures.does.state
 
 pub returns-clause-seen : goal.returns-clause-seen
-returns-clause-seen c = step_seen _ _ _ c.args.event.now c.in_ok-decision.ensures.does.state c.work_endings.ensures.does
+returns-clause-seen c = step_seen _ _ _ c.args.event.now c.in_ok-do_event.ensures.does.state c.work_endings.ensures.does
 
 pub returns-clause-answer : goal.returns-clause-answer
 unfolding answer_to
-returns-clause-answer c = c.in_ok-decision.ensures.does.answer
+returns-clause-answer c = c.in_ok-do_event.ensures.does.answer
 
 pub returns-clause-stands : goal.returns-clause-stands
 returns-clause-stands c =
-    step_stands _ _ c.args.event.now c.in_ok-decision.decision (returns-clause-seen c) (returns-clause-answer c)
+    step_stands _ _ c.args.event.now c.do_event.new.decision (returns-clause-seen c) (returns-clause-answer c)
 
 pub returns-clause-after : goal.returns-clause-after
 returns-clause-after c =
