@@ -1,6 +1,6 @@
 -- The line that is printed of an event is read as that event alone.
-use Rattle.std.proofs.Common.{◌≡◌, ℕ, ◌<◌, eqb, List, [], ◌∷◌, ◌++◌, length, map, Some, refl, sym, ap, subst, ◌∙◌, append-nil, arith}
-use Rattle.std.specs.List.{AllByRecursion, slice_split}
+use Rattle.std.proofs.Common.{◌≡◌, ℕ, ◌<◌, eqb, List, [], ◌∷◌, length, map, Some, refl, sym, ap, subst, ◌∙◌, append-nil, arith}
+use Rattle.std.specs.List.{AllByRecursion}
 use Rattle.std.proofs.lemmas.List.Splits.{slice_split_none, slice_split_at}
 use Rattle.call_words.specs.declared.event.Event.{Event}
 use Rattle.call_words.specs.declared.event.Event.TheVariants as event
@@ -8,7 +8,7 @@ use Rattle.call_words.specs.Events.{MayBeUsed}
 use Rattle.script_text.specs.Words.{words, parts_of}
 use Rattle.script_text.specs.Reading.{events_of_line}
 use Rattle.script_text.specs.Grammar.{Field, Fits, SayAll, word_of, fields, Ask, asks_call, asks_again, asks_carrier, asks_take, asks_end, asks_bytes}
-use Rattle.script_text.specs.Printing.{behind_blanks, line_text, event_line, HasLine}
+use Rattle.script_text.specs.Printing.{line_text, event_line, HasLine}
 use Rattle.script_text.proofs.ReadBack.{word_back}
 use Rattle.script_text.proofs.OneWord.{word_is_solid, no_blank}
 use Rattle.script_text.proofs.Asking.{line_is_read}

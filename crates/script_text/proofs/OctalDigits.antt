@@ -1,5 +1,5 @@
 -- The octal digits of a mode, without leading zeros, and the entries that a text has room for.
-use Rattle.std.proofs.Common.{◌≡◌, ℕ, ◌+◌, ◌/◌, ◌%◌, ◌^◌, ◌<◌, ◌≤◌, Bool, true, cond, leb, List, [], ◌∷◌, length, take, take_all, refl, subst, arith}
+use Rattle.std.proofs.Common.{◌≡◌, ℕ, ◌+◌, ◌/◌, ◌%◌, ◌^◌, ◌<◌, ◌≤◌, true, cond, leb, List, [], ◌∷◌, length, take, take_all, refl, subst, arith}
 use Rattle.std.specs.Fmt.{digits}
 use Rattle.std.specs.Str.{bytes_eq}
 use Rattle.std.proofs.lemmas.Bool.{agree_below_at, le-leb, lt-leb}

@@ -1,6 +1,6 @@
 -- What is printed of a field is one word: no byte of it is a blank.
-use Rattle.std.proofs.Common.{◌≡◌, ℕ, zero, suc, ◌+◌, ◌*◌, ◌/◌, ◌%◌, ◌^◌, ◌<◌, ◌≤◌, Bool, true, false, cond, eqb, leb, List, [], ◌∷◌, ◌++◌, length, map, get_or}
-use Rattle.std.proofs.Common.{flat_map, All, slice_index_or, Option, Some, None, refl, sym, ap, subst, ◌∙◌, arith}
+use Rattle.std.proofs.Common.{◌≡◌, ℕ, zero, suc, ◌/◌, ◌%◌, ◌^◌, ◌<◌, ◌≤◌, Bool, true, false, cond, eqb, leb, List, [], ◌∷◌, ◌++◌, length, map, get_or}
+use Rattle.std.proofs.Common.{flat_map, All, slice_index_or, refl, arith}
 use Rattle.std.specs.Prelude.{codes, ◌&&◌, ◌||◌}
 use Rattle.std.specs.Fmt.{decimal, digits}
 use Rattle.std.specs.List.{AllByRecursion, list_all, join_with_byte}
@@ -28,7 +28,6 @@ use Rattle.call_words.specs.declared.open.Access.TheVariants as access
 use Rattle.call_words.specs.declared.open.OpenFlags.{OpenFlags}
 use Rattle.call_words.specs.declared.attr.WhichList.{WhichList}
 use Rattle.call_words.specs.declared.attr.WhichList.TheVariants as which
-use Rattle.call_words.specs.declared.proc.WaitFlags.{WaitFlags}
 use Rattle.call_words.specs.declared.signal.To.{To}
 use Rattle.call_words.specs.declared.signal.To.TheVariants as to
 use Rattle.call_words.specs.declared.signal.Action.{Action}

@@ -45,15 +45,18 @@ slot_events_of slot (w ∷ ws) =
 abbrev pub slot_line_of : List ℕ → List (List ℕ) → Option (List Event)
 slot_line_of slot ws = option_and_then (λ n. slot_events_of n ws) (slot_of slot)
 
-abbrev pub events_of_words : List (List ℕ) → Option (List Event)
-events_of_words [] = None
-events_of_words (w ∷ ws) =
-    if bytes_eq w (codes "in") then in_of ws
-    else if bytes_eq w (codes "take") then take_of ws
+-- a line of one event, by its first word
+abbrev pub one_of : List ℕ → List (List ℕ) → Option (List Event)
+one_of w ws =
+    if bytes_eq w (codes "take") then take_of ws
     else if bytes_eq w (codes "up") then carrier_of true ws
     else if bytes_eq w (codes "down") then carrier_of false ws
     else if bytes_eq w (codes "end") then end_of ws
     else slot_line_of w ws
+
+abbrev pub events_of_words : List (List ℕ) → Option (List Event)
+events_of_words [] = None
+events_of_words (w ∷ ws) = if bytes_eq w (codes "in") then in_of ws else one_of w ws
 
 -- the events of a line of at most 4,096 bytes; any other line is bad
 unfoldable pub events_of_line : List ℕ → Option (List Event)

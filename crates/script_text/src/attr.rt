@@ -1,5 +1,5 @@
 //! The calls on what a node is, as their words give them.
-ghost use Rattle.std.specs.Prelude.{◌≡◌, ◌+◌, ◌*◌, ◌≤◌, ◌++◌, IfSome};
+ghost use Rattle.std.specs.Prelude.{◌≡◌, ◌+◌, ◌*◌, ◌≤◌, ◌++◌, OnSome, option_map};
 ghost use Rattle.std.specs.List.{AllByRecursion};
 ghost use Rattle.arrayvec.specs.ArrayVec.{array_vec_len};
 ghost use Rattle.call_words.specs.Calls.{HasFitMode, group_of_call, attr_call};
@@ -19,94 +19,101 @@ use call_words::{Call, Entries};
 use label_core::read_element;
 
 /// `info PATH`
-fn read_info(words: &mut Words) -> Option<Call>
-    ensures { result ≡ info_of words.old }
+fn read_info(words: &mut Words, call: &mut Call) -> Option<()>
+    ensures { option_map (λ _. call.new) result ≡ info_of words.old }
 {
     let path = only_path(words)?;
-    Some(Call::Info { path })
+    *call = Call::Info { path };
+    Some(())
 }
 
 /// `chmod PATH MODE`
-fn read_chmod(words: &mut Words) -> Option<Call>
-    ensures call { result ≡ chmod_of words.old }
-    ensures fit { IfSome result HasFitMode }
+fn read_chmod(words: &mut Words, call: &mut Call) -> Option<()>
+    ensures call { option_map (λ _. call.new) result ≡ chmod_of words.old }
+    ensures fit { OnSome result (HasFitMode call.new) }
 {
     let (path, mode) = path_and_mode(words)?;
-    Some(Call::Chmod { path, mode })
+    *call = Call::Chmod { path, mode };
+    Some(())
 }
 
 /// `chown PATH UID GID`
-fn read_chown(words: &mut Words) -> Option<Call>
-    ensures { result ≡ chown_of words.old }
+fn read_chown(words: &mut Words, call: &mut Call) -> Option<()>
+    ensures { option_map (λ _. call.new) result ≡ chown_of words.old }
 {
     let (path, uid, gid) = all_three(words)?;
     let path = read_path(path)?;
     let uid = read_id(uid)?;
     let gid = read_id(gid)?;
-    Some(Call::Chown { path, uid, gid })
+    *call = Call::Chown { path, uid, gid };
+    Some(())
 }
 
 /// `setacl PATH WHICH LIST`
-fn read_setacl(words: &mut Words) -> Option<Call>
-    ensures { result ≡ setacl_of words.old }
+fn read_setacl(words: &mut Words, call: &mut Call) -> Option<()>
+    ensures { option_map (λ _. call.new) result ≡ setacl_of words.old }
 {
     let (path, which, list) = all_three(words)?;
     let path = read_path(path)?;
     let which = read_which(which)?;
     let list = Entries::new(acl_core::read_list(list).ok()?);
-    Some(Call::SetAcl { path, which, list })
+    *call = Call::SetAcl { path, which, list };
+    Some(())
 }
 
 /// `getacl PATH WHICH`
-fn read_getacl(words: &mut Words) -> Option<Call>
-    ensures { result ≡ getacl_of words.old }
+fn read_getacl(words: &mut Words, call: &mut Call) -> Option<()>
+    ensures { option_map (λ _. call.new) result ≡ getacl_of words.old }
 {
     let (path, which) = both(words)?;
     let path = read_path(path)?;
     let which = read_which(which)?;
-    Some(Call::GetAcl { path, which })
+    *call = Call::GetAcl { path, which };
+    Some(())
 }
 
 /// `setlabel PATH ELEMENT`
-fn read_setlabel(words: &mut Words) -> Option<Call>
-    ensures { result ≡ setlabel_of words.old }
+fn read_setlabel(words: &mut Words, call: &mut Call) -> Option<()>
+    ensures { option_map (λ _. call.new) result ≡ setlabel_of words.old }
 {
     let (path, element) = both(words)?;
     let path = read_path(path)?;
     let element = read_element(element).ok()?;
-    Some(Call::SetLabel { path, element })
+    *call = Call::SetLabel { path, element };
+    Some(())
 }
 
 /// `getlabel PATH`
-fn read_getlabel(words: &mut Words) -> Option<Call>
-    ensures { result ≡ getlabel_of words.old }
+fn read_getlabel(words: &mut Words, call: &mut Call) -> Option<()>
+    ensures { option_map (λ _. call.new) result ≡ getlabel_of words.old }
 {
     let path = only_path(words)?;
-    Some(Call::GetLabel { path })
+    *call = Call::GetLabel { path };
+    Some(())
 }
 
 /// A call on what a node is: its name and its words, or one of the next groups.
 #[tactic(auto, unfolding(crate::specs::Attr::attr_call_of))]
-pub fn read_attr_call(name: &[u8], words: &mut Words) -> Option<Call>
-    ensures call { result ≡ attr_call_of name.now words.old }
-    ensures fit { IfSome result HasFitMode }
+pub fn read_attr_call(name: &[u8], words: &mut Words, call: &mut Call) -> Option<()>
+    ensures call { option_map (λ _. call.new) result ≡ attr_call_of name.now words.old }
+    ensures fit { OnSome result (HasFitMode call.new) }
 {
     if is_word(name, b"info") {
-        read_info(words)
+        read_info(words, call)
     } else if is_word(name, b"chmod") {
-        read_chmod(words)
+        read_chmod(words, call)
     } else if is_word(name, b"chown") {
-        read_chown(words)
+        read_chown(words, call)
     } else if is_word(name, b"setacl") {
-        read_setacl(words)
+        read_setacl(words, call)
     } else if is_word(name, b"getacl") {
-        read_getacl(words)
+        read_getacl(words, call)
     } else if is_word(name, b"setlabel") {
-        read_setlabel(words)
+        read_setlabel(words, call)
     } else if is_word(name, b"getlabel") {
-        read_getlabel(words)
+        read_getlabel(words, call)
     } else {
-        read_cred_call(name, words)
+        read_cred_call(name, words, call)
     }
 }
 

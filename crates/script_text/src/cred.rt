@@ -1,9 +1,10 @@
 //! The calls on who asks, as their words give them.
-ghost use Rattle.std.specs.Prelude.{◌≡◌, ◌+◌, ◌*◌, ◌≤◌, ◌++◌, IfSome};
+ghost use Rattle.std.specs.Prelude.{◌≡◌, ◌+◌, ◌*◌, ◌≤◌, ◌++◌, OnSome, option_map};
 ghost use Rattle.std.specs.List.{AllByRecursion};
 ghost use Rattle.arrayvec.specs.ArrayVec.{array_vec_len};
 ghost use Rattle.call_words.specs.Calls.{HasFitMode, group_of_call, cred_call};
 ghost use Rattle.script_text.specs.Grammar.{Fits, call_fields};
+ghost use Rattle.script_text.specs.Args.{alone};
 ghost use Rattle.script_text.specs.Printing.{behind_blanks};
 ghost use Rattle.script_text.specs.Cred.{cred_call_of, setcred_of, setproclabel_of, umask_of};
 
@@ -19,50 +20,62 @@ use call_words::Call;
 use label_core::read_subject;
 
 /// `setproclabel SUBJECT`
-fn read_setproclabel(words: &mut Words) -> Option<Call>
-    ensures { result ≡ setproclabel_of words.old }
+fn read_setproclabel(words: &mut Words, call: &mut Call) -> Option<()>
+    ensures { option_map (λ _. call.new) result ≡ setproclabel_of words.old }
 {
     let subject = read_subject(only(words)?).ok()?;
-    Some(Call::SetProcLabel { subject })
+    *call = Call::SetProcLabel { subject };
+    Some(())
 }
 
 /// `setcred UID GID GROUPS`
-fn read_setcred(words: &mut Words) -> Option<Call>
-    ensures { result ≡ setcred_of words.old }
+fn read_setcred(words: &mut Words, call: &mut Call) -> Option<()>
+    ensures { option_map (λ _. call.new) result ≡ setcred_of words.old }
 {
     let (uid, gid, groups) = all_three(words)?;
     let uid = read_id(uid)?;
     let gid = read_id(gid)?;
     let groups = read_groups(groups)?;
     let cred = Cred { uid, gid, groups };
-    Some(Call::SetCred { cred })
+    *call = Call::SetCred { cred };
+    Some(())
 }
 
 /// `umask MODE`
-fn read_umask(words: &mut Words) -> Option<Call>
-    ensures call { result ≡ umask_of words.old }
-    ensures fit { IfSome result HasFitMode }
+fn read_umask(words: &mut Words, call: &mut Call) -> Option<()>
+    ensures call { option_map (λ _. call.new) result ≡ umask_of words.old }
+    ensures fit { OnSome result (HasFitMode call.new) }
 {
     let mode = read_mode(only(words)?)?;
-    Some(Call::Umask { mode })
+    *call = Call::Umask { mode };
+    Some(())
+}
+
+/// `ident`
+fn read_ident(words: &mut Words, call: &mut Call) -> Option<()>
+    ensures { option_map (λ _. call.new) result ≡ alone Call.Ident words.old }
+{
+    alone(words, ())?;
+    *call = Call::Ident;
+    Some(())
 }
 
 /// A call on who asks: its name and its words, or one of the next groups.
 #[tactic(auto, unfolding(crate::specs::Cred::cred_call_of))]
-pub fn read_cred_call(name: &[u8], words: &mut Words) -> Option<Call>
-    ensures call { result ≡ cred_call_of name.now words.old }
-    ensures fit { IfSome result HasFitMode }
+pub fn read_cred_call(name: &[u8], words: &mut Words, call: &mut Call) -> Option<()>
+    ensures call { option_map (λ _. call.new) result ≡ cred_call_of name.now words.old }
+    ensures fit { OnSome result (HasFitMode call.new) }
 {
     if is_word(name, b"setproclabel") {
-        read_setproclabel(words)
+        read_setproclabel(words, call)
     } else if is_word(name, b"ident") {
-        alone(words, Call::Ident)
+        read_ident(words, call)
     } else if is_word(name, b"setcred") {
-        read_setcred(words)
+        read_setcred(words, call)
     } else if is_word(name, b"umask") {
-        read_umask(words)
+        read_umask(words, call)
     } else {
-        read_pipe_call(name, words)
+        read_pipe_call(name, words, call)
     }
 }
 

@@ -1,5 +1,5 @@
 //! The calls on directories, as their words give them.
-ghost use Rattle.std.specs.Prelude.{◌≡◌, ◌+◌, ◌*◌, ◌≤◌, ◌++◌, IfSome};
+ghost use Rattle.std.specs.Prelude.{◌≡◌, ◌+◌, ◌*◌, ◌≤◌, ◌++◌, OnSome, option_map};
 ghost use Rattle.std.specs.List.{AllByRecursion};
 ghost use Rattle.arrayvec.specs.ArrayVec.{array_vec_len};
 ghost use Rattle.call_words.specs.Calls.{HasFitMode, group_of_call, dir_call};
@@ -15,66 +15,71 @@ use crate::words::{Words, both, is_word};
 use call_words::Call;
 
 /// `chdir PATH`
-fn read_chdir(words: &mut Words) -> Option<Call>
-    ensures { result ≡ chdir_of words.old }
+fn read_chdir(words: &mut Words, call: &mut Call) -> Option<()>
+    ensures { option_map (λ _. call.new) result ≡ chdir_of words.old }
 {
     let path = only_path(words)?;
-    Some(Call::Chdir { path })
+    *call = Call::Chdir { path };
+    Some(())
 }
 
 /// `mkdir PATH MODE`
-fn read_mkdir(words: &mut Words) -> Option<Call>
-    ensures call { result ≡ mkdir_of words.old }
-    ensures fit { IfSome result HasFitMode }
+fn read_mkdir(words: &mut Words, call: &mut Call) -> Option<()>
+    ensures call { option_map (λ _. call.new) result ≡ mkdir_of words.old }
+    ensures fit { OnSome result (HasFitMode call.new) }
 {
     let (path, mode) = path_and_mode(words)?;
-    Some(Call::Mkdir { path, mode })
+    *call = Call::Mkdir { path, mode };
+    Some(())
 }
 
 /// `rmdir PATH`
-fn read_rmdir(words: &mut Words) -> Option<Call>
-    ensures { result ≡ rmdir_of words.old }
+fn read_rmdir(words: &mut Words, call: &mut Call) -> Option<()>
+    ensures { option_map (λ _. call.new) result ≡ rmdir_of words.old }
 {
     let path = only_path(words)?;
-    Some(Call::Rmdir { path })
+    *call = Call::Rmdir { path };
+    Some(())
 }
 
 /// `unlink PATH`
-fn read_unlink(words: &mut Words) -> Option<Call>
-    ensures { result ≡ unlink_of words.old }
+fn read_unlink(words: &mut Words, call: &mut Call) -> Option<()>
+    ensures { option_map (λ _. call.new) result ≡ unlink_of words.old }
 {
     let path = only_path(words)?;
-    Some(Call::Unlink { path })
+    *call = Call::Unlink { path };
+    Some(())
 }
 
 /// `list PATH FROM`
-fn read_list(words: &mut Words) -> Option<Call>
-    ensures { result ≡ list_of words.old }
+fn read_list(words: &mut Words, call: &mut Call) -> Option<()>
+    ensures { option_map (λ _. call.new) result ≡ list_of words.old }
 {
     let (path, from) = both(words)?;
     let path = read_path(path)?;
     let from = read_from(from)?;
-    Some(Call::List { path, from })
+    *call = Call::List { path, from };
+    Some(())
 }
 
 /// A call on directories: its name and its words, or one of the next groups.
 #[tactic(auto, unfolding(crate::specs::Dir::dir_call_of))]
-pub fn read_dir_call(name: &[u8], words: &mut Words) -> Option<Call>
-    ensures call { result ≡ dir_call_of name.now words.old }
-    ensures fit { IfSome result HasFitMode }
+pub fn read_dir_call(name: &[u8], words: &mut Words, call: &mut Call) -> Option<()>
+    ensures call { option_map (λ _. call.new) result ≡ dir_call_of name.now words.old }
+    ensures fit { OnSome result (HasFitMode call.new) }
 {
     if is_word(name, b"chdir") {
-        read_chdir(words)
+        read_chdir(words, call)
     } else if is_word(name, b"mkdir") {
-        read_mkdir(words)
+        read_mkdir(words, call)
     } else if is_word(name, b"rmdir") {
-        read_rmdir(words)
+        read_rmdir(words, call)
     } else if is_word(name, b"unlink") {
-        read_unlink(words)
+        read_unlink(words, call)
     } else if is_word(name, b"list") {
-        read_list(words)
+        read_list(words, call)
     } else {
-        read_attr_call(name, words)
+        read_attr_call(name, words, call)
     }
 }
 

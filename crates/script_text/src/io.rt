@@ -1,5 +1,5 @@
 //! The calls on reads and writes, as their words give them.
-ghost use Rattle.std.specs.Prelude.{◌≡◌, ◌+◌, ◌*◌, ◌≤◌, ◌++◌, IfSome};
+ghost use Rattle.std.specs.Prelude.{◌≡◌, ◌+◌, ◌*◌, ◌≤◌, ◌++◌, OnSome, option_map};
 ghost use Rattle.std.specs.List.{AllByRecursion};
 ghost use Rattle.arrayvec.specs.ArrayVec.{array_vec_len};
 ghost use Rattle.call_words.specs.Calls.{HasFitMode, group_of_call, io_call};
@@ -15,37 +15,39 @@ use crate::words::{Words, both, is_word};
 use call_words::Call;
 
 /// `read FD MAX`
-fn read_read(words: &mut Words) -> Option<Call>
-    ensures { result ≡ read_of words.old }
+fn read_read(words: &mut Words, call: &mut Call) -> Option<()>
+    ensures { option_map (λ _. call.new) result ≡ read_of words.old }
 {
     let (fd, max) = both(words)?;
     let fd = read_fd(fd)?;
     let max = read_max(max)?;
-    Some(Call::Read { fd, max })
+    *call = Call::Read { fd, max };
+    Some(())
 }
 
 /// `write FD HEX`
-fn read_write(words: &mut Words) -> Option<Call>
-    ensures { result ≡ write_of words.old }
+fn read_write(words: &mut Words, call: &mut Call) -> Option<()>
+    ensures { option_map (λ _. call.new) result ≡ write_of words.old }
 {
     let (fd, bytes) = both(words)?;
     let fd = read_fd(fd)?;
     let bytes = read_bytes(bytes)?;
-    Some(Call::Write { fd, bytes })
+    *call = Call::Write { fd, bytes };
+    Some(())
 }
 
 /// A call on reads and writes: its name and its words, or one of the next groups.
 #[tactic(auto, unfolding(crate::specs::Io::io_call_of))]
-pub fn read_io_call(name: &[u8], words: &mut Words) -> Option<Call>
-    ensures call { result ≡ io_call_of name.now words.old }
-    ensures fit { IfSome result HasFitMode }
+pub fn read_io_call(name: &[u8], words: &mut Words, call: &mut Call) -> Option<()>
+    ensures call { option_map (λ _. call.new) result ≡ io_call_of name.now words.old }
+    ensures fit { OnSome result (HasFitMode call.new) }
 {
     if is_word(name, b"read") {
-        read_read(words)
+        read_read(words, call)
     } else if is_word(name, b"write") {
-        read_write(words)
+        read_write(words, call)
     } else {
-        read_dir_call(name, words)
+        read_dir_call(name, words, call)
     }
 }
 

@@ -1,5 +1,5 @@
 //! The calls on descriptors, as their words give them.
-ghost use Rattle.std.specs.Prelude.{◌≡◌, ◌+◌, ◌*◌, ◌≤◌, ◌++◌, IfSome};
+ghost use Rattle.std.specs.Prelude.{◌≡◌, ◌+◌, ◌*◌, ◌≤◌, ◌++◌, OnSome, option_map};
 ghost use Rattle.std.specs.List.{AllByRecursion};
 ghost use Rattle.arrayvec.specs.ArrayVec.{array_vec_len};
 ghost use Rattle.call_words.specs.Calls.{HasFitMode, group_of_call, open_call};
@@ -18,9 +18,9 @@ use crate::words::{Words, both, is_word, only};
 use call_words::{Call, OpenFlags};
 
 /// `open PATH ACCESS FLAGS MODE`, where FLAGS and MODE may be absent from the right.
-fn read_open(words: &mut Words) -> Option<Call>
-    ensures call { result ≡ open_of words.old }
-    ensures fit { IfSome result HasFitMode }
+fn read_open(words: &mut Words, call: &mut Call) -> Option<()>
+    ensures call { option_map (λ _. call.new) result ≡ open_of words.old }
+    ensures fit { OnSome result (HasFitMode call.new) }
 {
     let path = words.next()?;
     let access = words.next()?;
@@ -35,56 +35,60 @@ fn read_open(words: &mut Words) -> Option<Call>
     if words.next().is_some() {
         return None;
     }
-    Some(Call::Open {
+    *call = Call::Open {
         path: read_path(path)?,
         access: read_access(access)?,
         flags,
         mode,
-    })
+    };
+    Some(())
 }
 
 /// `close FD`
-fn read_close(words: &mut Words) -> Option<Call>
-    ensures { result ≡ close_of words.old }
+fn read_close(words: &mut Words, call: &mut Call) -> Option<()>
+    ensures { option_map (λ _. call.new) result ≡ close_of words.old }
 {
     let fd = read_fd(only(words)?)?;
-    Some(Call::Close { fd })
+    *call = Call::Close { fd };
+    Some(())
 }
 
 /// `dup FD`
-fn read_dup(words: &mut Words) -> Option<Call>
-    ensures { result ≡ dup_of words.old }
+fn read_dup(words: &mut Words, call: &mut Call) -> Option<()>
+    ensures { option_map (λ _. call.new) result ≡ dup_of words.old }
 {
     let fd = read_fd(only(words)?)?;
-    Some(Call::Dup { fd })
+    *call = Call::Dup { fd };
+    Some(())
 }
 
 /// `dup2 FD TO`
-fn read_dup2(words: &mut Words) -> Option<Call>
-    ensures { result ≡ dup2_of words.old }
+fn read_dup2(words: &mut Words, call: &mut Call) -> Option<()>
+    ensures { option_map (λ _. call.new) result ≡ dup2_of words.old }
 {
     let (fd, to) = both(words)?;
     let fd = read_fd(fd)?;
     let to = read_fd(to)?;
-    Some(Call::Dup2 { fd, to })
+    *call = Call::Dup2 { fd, to };
+    Some(())
 }
 
 /// A call on descriptors: its name and its words, or one of the next groups.
 #[tactic(auto, unfolding(crate::specs::Open::open_call_of))]
-pub fn read_open_call(name: &[u8], words: &mut Words) -> Option<Call>
-    ensures call { result ≡ open_call_of name.now words.old }
-    ensures fit { IfSome result HasFitMode }
+pub fn read_open_call(name: &[u8], words: &mut Words, call: &mut Call) -> Option<()>
+    ensures call { option_map (λ _. call.new) result ≡ open_call_of name.now words.old }
+    ensures fit { OnSome result (HasFitMode call.new) }
 {
     if is_word(name, b"open") {
-        read_open(words)
+        read_open(words, call)
     } else if is_word(name, b"close") {
-        read_close(words)
+        read_close(words, call)
     } else if is_word(name, b"dup") {
-        read_dup(words)
+        read_dup(words, call)
     } else if is_word(name, b"dup2") {
-        read_dup2(words)
+        read_dup2(words, call)
     } else {
-        read_io_call(name, words)
+        read_io_call(name, words, call)
     }
 }
 

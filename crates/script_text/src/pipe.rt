@@ -1,9 +1,10 @@
 //! The calls on pipes, as their words give them.
-ghost use Rattle.std.specs.Prelude.{◌≡◌, ◌+◌, ◌*◌, ◌≤◌, ◌++◌, IfSome};
+ghost use Rattle.std.specs.Prelude.{◌≡◌, ◌+◌, ◌*◌, ◌≤◌, ◌++◌, OnSome, option_map};
 ghost use Rattle.std.specs.List.{AllByRecursion};
 ghost use Rattle.arrayvec.specs.ArrayVec.{array_vec_len};
 ghost use Rattle.call_words.specs.Calls.{HasFitMode, group_of_call, pipe_call};
 ghost use Rattle.script_text.specs.Grammar.{Fits, call_fields};
+ghost use Rattle.script_text.specs.Args.{alone};
 ghost use Rattle.script_text.specs.Printing.{behind_blanks};
 ghost use Rattle.script_text.specs.Pipe.{pipe_call_of};
 
@@ -12,16 +13,25 @@ use crate::push::{LINE_ROOM, Line, WORD_ROOM, push_word};
 use crate::words::{Words, alone, is_word};
 use call_words::Call;
 
+/// `pipe`
+fn read_pipe(words: &mut Words, call: &mut Call) -> Option<()>
+    ensures { option_map (λ _. call.new) result ≡ alone Call.Pipe words.old }
+{
+    alone(words, ())?;
+    *call = Call::Pipe;
+    Some(())
+}
+
 /// A call on pipes: its name and its words, or one of the next groups.
 #[tactic(auto, unfolding(crate::specs::Pipe::pipe_call_of))]
-pub fn read_pipe_call(name: &[u8], words: &mut Words) -> Option<Call>
-    ensures call { result ≡ pipe_call_of name.now words.old }
-    ensures fit { IfSome result HasFitMode }
+pub fn read_pipe_call(name: &[u8], words: &mut Words, call: &mut Call) -> Option<()>
+    ensures call { option_map (λ _. call.new) result ≡ pipe_call_of name.now words.old }
+    ensures fit { OnSome result (HasFitMode call.new) }
 {
     if is_word(name, b"pipe") {
-        alone(words, Call::Pipe)
+        read_pipe(words, call)
     } else {
-        read_proc_call(name, words)
+        read_proc_call(name, words, call)
     }
 }
 

@@ -1,9 +1,10 @@
 //! The calls on processes, as their words give them.
-ghost use Rattle.std.specs.Prelude.{◌≡◌, ◌+◌, ◌*◌, ◌≤◌, ◌++◌, codes, IfSome};
+ghost use Rattle.std.specs.Prelude.{◌≡◌, ◌+◌, ◌*◌, ◌≤◌, ◌++◌, codes, OnSome, option_map};
 ghost use Rattle.std.specs.List.{AllByRecursion};
 ghost use Rattle.arrayvec.specs.ArrayVec.{array_vec_len};
 ghost use Rattle.call_words.specs.Calls.{HasFitMode, group_of_call, proc_call};
 ghost use Rattle.script_text.specs.Grammar.{Fits, call_fields};
+ghost use Rattle.script_text.specs.Args.{alone};
 ghost use Rattle.script_text.specs.Printing.{behind_blanks};
 ghost use Rattle.script_text.specs.Proc.{exec_of, exit_of, fork_of, proc_call_of, setpgid_of, wait_flags_of, wait_of, wait_flags_word};
 
@@ -30,8 +31,8 @@ fn read_wait_flags(word: &[u8]) -> Option<WaitFlags>
 }
 
 /// `fork HEX`, where HEX may be absent.
-fn read_fork(words: &mut Words) -> Option<Call>
-    ensures { result ≡ fork_of words.old }
+fn read_fork(words: &mut Words, call: &mut Call) -> Option<()>
+    ensures { option_map (λ _. call.new) result ≡ fork_of words.old }
 {
     let note = match words.next() {
         Some(word) => read_bytes(word)?,
@@ -40,30 +41,33 @@ fn read_fork(words: &mut Words) -> Option<Call>
     if words.next().is_some() {
         return None;
     }
-    Some(Call::Fork { note })
+    *call = Call::Fork { note };
+    Some(())
 }
 
 /// `exec PATH HEX`
-fn read_exec(words: &mut Words) -> Option<Call>
-    ensures { result ≡ exec_of words.old }
+fn read_exec(words: &mut Words, call: &mut Call) -> Option<()>
+    ensures { option_map (λ _. call.new) result ≡ exec_of words.old }
 {
     let (path, args) = both(words)?;
     let path = read_path(path)?;
     let args = read_bytes(args)?;
-    Some(Call::Exec { path, args })
+    *call = Call::Exec { path, args };
+    Some(())
 }
 
 /// `exit N`
-fn read_exit(words: &mut Words) -> Option<Call>
-    ensures { result ≡ exit_of words.old }
+fn read_exit(words: &mut Words, call: &mut Call) -> Option<()>
+    ensures { option_map (λ _. call.new) result ≡ exit_of words.old }
 {
     let status = read_status(only(words)?)?;
-    Some(Call::Exit { status })
+    *call = Call::Exit { status };
+    Some(())
 }
 
 /// `wait PID FLAGS`, where FLAGS may be absent.
-fn read_wait(words: &mut Words) -> Option<Call>
-    ensures { result ≡ wait_of words.old }
+fn read_wait(words: &mut Words, call: &mut Call) -> Option<()>
+    ensures { option_map (λ _. call.new) result ≡ wait_of words.old }
 {
     let pid = words.next()?;
     let flags = match words.next() {
@@ -73,48 +77,86 @@ fn read_wait(words: &mut Words) -> Option<Call>
     if words.next().is_some() {
         return None;
     }
-    Some(Call::Wait {
+    *call = Call::Wait {
         pid: read_pid(pid)?,
         flags,
-    })
+    };
+    Some(())
 }
 
 /// `setpgid PID GROUP`
-fn read_setpgid(words: &mut Words) -> Option<Call>
-    ensures { result ≡ setpgid_of words.old }
+fn read_setpgid(words: &mut Words, call: &mut Call) -> Option<()>
+    ensures { option_map (λ _. call.new) result ≡ setpgid_of words.old }
 {
     let (pid, group) = both(words)?;
     let pid = read_pid(pid)?;
     let group = read_pid(group)?;
-    Some(Call::SetPgid { pid, group })
+    *call = Call::SetPgid { pid, group };
+    Some(())
+}
+
+/// `begin`
+fn read_begin(words: &mut Words, call: &mut Call) -> Option<()>
+    ensures { option_map (λ _. call.new) result ≡ alone Call.Begin words.old }
+{
+    alone(words, ())?;
+    *call = Call::Begin;
+    Some(())
+}
+
+/// `setsid`
+fn read_setsid(words: &mut Words, call: &mut Call) -> Option<()>
+    ensures { option_map (λ _. call.new) result ≡ alone Call.SetSid words.old }
+{
+    alone(words, ())?;
+    *call = Call::SetSid;
+    Some(())
+}
+
+/// `ps`
+fn read_ps(words: &mut Words, call: &mut Call) -> Option<()>
+    ensures { option_map (λ _. call.new) result ≡ alone Call.Ps words.old }
+{
+    alone(words, ())?;
+    *call = Call::Ps;
+    Some(())
+}
+
+/// `halt`
+fn read_halt(words: &mut Words, call: &mut Call) -> Option<()>
+    ensures { option_map (λ _. call.new) result ≡ alone Call.Halt words.old }
+{
+    alone(words, ())?;
+    *call = Call::Halt;
+    Some(())
 }
 
 /// A call on processes: its name and its words, or one of the next groups.
 #[tactic(auto, unfolding(crate::specs::Proc::proc_call_of))]
-pub fn read_proc_call(name: &[u8], words: &mut Words) -> Option<Call>
-    ensures call { result ≡ proc_call_of name.now words.old }
-    ensures fit { IfSome result HasFitMode }
+pub fn read_proc_call(name: &[u8], words: &mut Words, call: &mut Call) -> Option<()>
+    ensures call { option_map (λ _. call.new) result ≡ proc_call_of name.now words.old }
+    ensures fit { OnSome result (HasFitMode call.new) }
 {
     if is_word(name, b"begin") {
-        alone(words, Call::Begin)
+        read_begin(words, call)
     } else if is_word(name, b"fork") {
-        read_fork(words)
+        read_fork(words, call)
     } else if is_word(name, b"exec") {
-        read_exec(words)
+        read_exec(words, call)
     } else if is_word(name, b"exit") {
-        read_exit(words)
+        read_exit(words, call)
     } else if is_word(name, b"wait") {
-        read_wait(words)
+        read_wait(words, call)
     } else if is_word(name, b"setsid") {
-        alone(words, Call::SetSid)
+        read_setsid(words, call)
     } else if is_word(name, b"setpgid") {
-        read_setpgid(words)
+        read_setpgid(words, call)
     } else if is_word(name, b"ps") {
-        alone(words, Call::Ps)
+        read_ps(words, call)
     } else if is_word(name, b"halt") {
-        alone(words, Call::Halt)
+        read_halt(words, call)
     } else {
-        read_signal_call(name, words)
+        read_signal_call(name, words, call)
     }
 }
 

@@ -1,16 +1,18 @@
 //! Event lines as events.
-ghost use Rattle.std.specs.Prelude.{◌≡◌, ℕ, ◌<◌, ◌≤◌, List, [], ◌∷◌, length, All, IfSome};
+ghost use Rattle.std.specs.Prelude.{◌≡◌, ℕ, ◌<◌, ◌≤◌, List, [], ◌∷◌, length, option_map, All, IfSome, OnSome};
 ghost use Rattle.sys_types.specs.declared.limits.TheConstants.{PIECE_BYTES, SLOTS};
 ghost use Rattle.call_words.specs.Events.{MayBeUsed};
 ghost use Rattle.script_text.specs.Words.{words as words_of};
-ghost use Rattle.script_text.specs.Reading.{in_of, take_of, carrier_of, end_of, slot_events_of, slot_line_of, events_of_words, events_of_line};
+ghost use Rattle.script_text.specs.Args.{alone};
+ghost use Rattle.script_text.specs.Calls.{call_of};
+ghost use Rattle.script_text.specs.Reading.{in_of, take_of, carrier_of, end_of, slot_events_of, slot_line_of, one_of, events_of_words, events_of_line};
 
 use crate::events::Events;
 use crate::numbers::read_bytes;
 use crate::open::read_open_call;
 use crate::values::{read_line, read_slot, read_take_max};
 use crate::words::{Words, alone, both, is_word, only};
-use call_words::{Event, SCRIPT_LINE_BYTES};
+use call_words::{Call, Event, SCRIPT_LINE_BYTES};
 
 /// `in ttyN HEX`
 fn read_in(words: &mut Words) -> Option<Events>
@@ -27,9 +29,9 @@ fn read_in(words: &mut Words) -> Option<Events>
 }
 
 /// `take ttyN MAX`
-fn read_take(words: &mut Words) -> Option<Events>
-    ensures events { result ≡ take_of words.old }
-    ensures valid { IfSome result (All MayBeUsed) }
+fn read_take(words: &mut Words, event: &mut Event) -> Option<()>
+    ensures events { option_map (λ _. event.new ∷ []) result ≡ take_of words.old }
+    ensures valid { OnSome result (MayBeUsed event.new) }
 {
     let (line, max) = both(words)?;
     let line = read_line(line)?;
@@ -37,47 +39,91 @@ fn read_take(words: &mut Words) -> Option<Events>
     if max == 0 {
         return None;
     }
-    Some(Events::one(Event::Take { line, max }))
+    *event = Event::Take { line, max };
+    Some(())
 }
 
 /// `up ttyN` or `down ttyN`, of which the first word is read already.
-fn read_carrier(words: &mut Words, up: bool) -> Option<Events>
-    ensures events { result ≡ carrier_of up words.old }
-    ensures valid { IfSome result (All MayBeUsed) }
+fn read_carrier(words: &mut Words, up: bool, event: &mut Event) -> Option<()>
+    ensures events { option_map (λ _. event.new ∷ []) result ≡ carrier_of up words.old }
+    ensures valid { OnSome result (MayBeUsed event.new) }
 {
     let line = read_line(only(words)?)?;
-    Some(Events::one(Event::Carrier { line, up }))
+    *event = Event::Carrier { line, up };
+    Some(())
 }
 
 /// `end ttyN`
-fn read_end(words: &mut Words) -> Option<Events>
-    ensures events { result ≡ end_of words.old }
-    ensures valid { IfSome result (All MayBeUsed) }
+fn read_end(words: &mut Words, event: &mut Event) -> Option<()>
+    ensures events { option_map (λ _. event.new ∷ []) result ≡ end_of words.old }
+    ensures valid { OnSome result (MayBeUsed event.new) }
 {
     let line = read_line(only(words)?)?;
-    Some(Events::one(Event::Ended { line }))
+    *event = Event::Ended { line };
+    Some(())
+}
+
+/// `again` alone, behind the slot's word.
+fn read_again(slot: u8, words: &mut Words, event: &mut Event) -> Option<()>
+    requires { slot < SLOTS }
+    ensures events { option_map (λ _. event.new ∷ []) result ≡ alone (Event.Again slot ∷ []) words.old }
+    ensures valid { OnSome result (MayBeUsed event.new) }
+{
+    alone(words, ())?;
+    *event = Event::Again { slot };
+    Some(())
+}
+
+/// A call, behind the slot's word.
+fn read_call(slot: u8, name: &[u8], words: &mut Words, event: &mut Event) -> Option<()>
+    requires { slot < SLOTS }
+    ensures events { option_map (λ _. event.new ∷ []) result ≡ option_map (λ c. Event.Call slot c ∷ []) (call_of name.now words.old) }
+    ensures valid { OnSome result (MayBeUsed event.new) }
+{
+    let mut call = Call::Ident;
+    read_open_call(name, words, &mut call)?;
+    *event = Event::Call { slot, call };
+    Some(())
 }
 
 /// `again` alone, or a call.
-fn read_slot_events(slot: u8, words: &mut Words) -> Option<Events>
+fn read_slot_event(slot: u8, words: &mut Words, event: &mut Event) -> Option<()>
     requires { slot < SLOTS }
-    ensures events { result ≡ slot_events_of slot words.old }
-    ensures valid { IfSome result (All MayBeUsed) }
+    ensures events { option_map (λ _. event.new ∷ []) result ≡ slot_events_of slot words.old }
+    ensures valid { OnSome result (MayBeUsed event.new) }
 {
     let name = words.next()?;
     if is_word(name, b"again") {
-        return alone(words, Events::one(Event::Again { slot }));
+        read_again(slot, words, event)
+    } else {
+        read_call(slot, name, words, event)
     }
-    let call = read_open_call(name, words)?;
-    Some(Events::one(Event::Call { slot, call }))
 }
 
 /// `SLOT again` or `SLOT CALL`, of which the slot's word is read already.
-fn read_slot_line(slot: &[u8], words: &mut Words) -> Option<Events>
-    ensures events { result ≡ slot_line_of slot.now words.old }
-    ensures valid { IfSome result (All MayBeUsed) }
+fn read_slot_line(slot: &[u8], words: &mut Words, event: &mut Event) -> Option<()>
+    ensures events { option_map (λ _. event.new ∷ []) result ≡ slot_line_of slot.now words.old }
+    ensures valid { OnSome result (MayBeUsed event.new) }
 {
-    read_slot_events(read_slot(slot)?, words)
+    read_slot_event(read_slot(slot)?, words, event)
+}
+
+/// The event of a line of one event, of which the first word is read already.
+fn read_one(first: &[u8], words: &mut Words, event: &mut Event) -> Option<()>
+    ensures events { option_map (λ _. event.new ∷ []) result ≡ one_of first.now words.old }
+    ensures valid { OnSome result (MayBeUsed event.new) }
+{
+    if is_word(first, b"take") {
+        read_take(words, event)
+    } else if is_word(first, b"up") {
+        read_carrier(words, true, event)
+    } else if is_word(first, b"down") {
+        read_carrier(words, false, event)
+    } else if is_word(first, b"end") {
+        read_end(words, event)
+    } else {
+        read_slot_line(first, words, event)
+    }
 }
 
 fn read_words(words: &mut Words) -> Option<Events>
@@ -86,18 +132,11 @@ fn read_words(words: &mut Words) -> Option<Events>
 {
     let first = words.next()?;
     if is_word(first, b"in") {
-        read_in(words)
-    } else if is_word(first, b"take") {
-        read_take(words)
-    } else if is_word(first, b"up") {
-        read_carrier(words, true)
-    } else if is_word(first, b"down") {
-        read_carrier(words, false)
-    } else if is_word(first, b"end") {
-        read_end(words)
-    } else {
-        read_slot_line(first, words)
+        return read_in(words);
     }
+    let mut event = Event::Again { slot: 0 };
+    read_one(first, words, &mut event)?;
+    Some(Events::one(event))
 }
 
 /// The events of an event line, without its newline: one, or one for each byte of an `in` line.

@@ -1,11 +1,12 @@
 //! The calls on signals, as their words give them.
-ghost use Rattle.std.specs.Prelude.{◌≡◌, ◌+◌, ◌*◌, ◌≤◌, ◌++◌, codes, IfSome};
+ghost use Rattle.std.specs.Prelude.{◌≡◌, ◌+◌, ◌*◌, ◌≤◌, ◌++◌, codes, OnSome, option_map};
 ghost use Rattle.std.specs.List.{AllByRecursion};
 ghost use Rattle.arrayvec.specs.ArrayVec.{array_vec_len};
 ghost use Rattle.call_words.specs.Calls.{HasFitMode, group_of_call, signal_call};
 ghost use Rattle.sys_types.specs.Signals.{sig_word};
 ghost use Rattle.script_text.specs.Grammar.{Fits, call_fields};
 ghost use Rattle.script_text.specs.Grammar as grammar;
+ghost use Rattle.script_text.specs.Args.{alone};
 ghost use Rattle.script_text.specs.Printing.{behind_blanks};
 ghost use Rattle.script_text.specs.Signal.{action_of, kill_of, signal_call_of, signal_of, sigset_of, target_of, action_word, target_word};
 
@@ -50,41 +51,61 @@ fn read_target(word: &[u8]) -> Option<To>
 }
 
 /// `kill PID SIG` or `kill gGROUP SIG`
-fn read_kill(words: &mut Words) -> Option<Call>
-    ensures { result ≡ kill_of words.old }
+fn read_kill(words: &mut Words, call: &mut Call) -> Option<()>
+    ensures { option_map (λ _. call.new) result ≡ kill_of words.old }
 {
     let (to, sig) = both(words)?;
     let to = read_target(to)?;
     let sig = read_signal(sig)?;
-    Some(Call::Kill { to, sig })
+    *call = Call::Kill { to, sig };
+    Some(())
 }
 
 /// `sigset SIG ACTION`
-fn read_sigset(words: &mut Words) -> Option<Call>
-    ensures { result ≡ sigset_of words.old }
+fn read_sigset(words: &mut Words, call: &mut Call) -> Option<()>
+    ensures { option_map (λ _. call.new) result ≡ sigset_of words.old }
 {
     let (sig, action) = both(words)?;
     let sig = read_signal(sig)?;
     let action = read_action(action)?;
-    Some(Call::SigSet { sig, action })
+    *call = Call::SigSet { sig, action };
+    Some(())
+}
+
+/// `sigtake`
+fn read_sigtake(words: &mut Words, call: &mut Call) -> Option<()>
+    ensures { option_map (λ _. call.new) result ≡ alone Call.SigTake words.old }
+{
+    alone(words, ())?;
+    *call = Call::SigTake;
+    Some(())
+}
+
+/// `pause`
+fn read_pause(words: &mut Words, call: &mut Call) -> Option<()>
+    ensures { option_map (λ _. call.new) result ≡ alone Call.Pause words.old }
+{
+    alone(words, ())?;
+    *call = Call::Pause;
+    Some(())
 }
 
 /// A call on signals: its name and its words, or one of the next groups.
 #[tactic(auto, unfolding(crate::specs::Signal::signal_call_of))]
-pub fn read_signal_call(name: &[u8], words: &mut Words) -> Option<Call>
-    ensures call { result ≡ signal_call_of name.now words.old }
-    ensures fit { IfSome result HasFitMode }
+pub fn read_signal_call(name: &[u8], words: &mut Words, call: &mut Call) -> Option<()>
+    ensures call { option_map (λ _. call.new) result ≡ signal_call_of name.now words.old }
+    ensures fit { OnSome result (HasFitMode call.new) }
 {
     if is_word(name, b"kill") {
-        read_kill(words)
+        read_kill(words, call)
     } else if is_word(name, b"sigset") {
-        read_sigset(words)
+        read_sigset(words, call)
     } else if is_word(name, b"sigtake") {
-        alone(words, Call::SigTake)
+        read_sigtake(words, call)
     } else if is_word(name, b"pause") {
-        alone(words, Call::Pause)
+        read_pause(words, call)
     } else {
-        read_tty_call(name, words)
+        read_tty_call(name, words, call)
     }
 }
 

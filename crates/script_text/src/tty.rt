@@ -1,5 +1,5 @@
 //! The calls on terminal lines, as their words give them.
-ghost use Rattle.std.specs.Prelude.{◌≡◌, ◌+◌, ◌*◌, ◌≤◌, ◌++◌, codes, IfSome};
+ghost use Rattle.std.specs.Prelude.{◌≡◌, ◌+◌, ◌*◌, ◌≤◌, ◌++◌, codes, OnSome, option_map};
 ghost use Rattle.std.specs.List.{AllByRecursion};
 ghost use Rattle.arrayvec.specs.ArrayVec.{array_vec_len};
 ghost use Rattle.call_words.specs.Calls.{HasFitMode, group_of_call, tty_call};
@@ -42,108 +42,117 @@ fn read_queue(word: &[u8]) -> Option<WhichQueue>
 }
 
 /// `setctty FD`
-fn read_setctty(words: &mut Words) -> Option<Call>
-    ensures { result ≡ setctty_of words.old }
+fn read_setctty(words: &mut Words, call: &mut Call) -> Option<()>
+    ensures { option_map (λ _. call.new) result ≡ setctty_of words.old }
 {
     let fd = read_fd(only(words)?)?;
-    Some(Call::SetCtty { fd })
+    *call = Call::SetCtty { fd };
+    Some(())
 }
 
 /// `tcgetattr FD`
-fn read_tcgetattr(words: &mut Words) -> Option<Call>
-    ensures { result ≡ tcgetattr_of words.old }
+fn read_tcgetattr(words: &mut Words, call: &mut Call) -> Option<()>
+    ensures { option_map (λ _. call.new) result ≡ tcgetattr_of words.old }
 {
     let fd = read_fd(only(words)?)?;
-    Some(Call::TcGetAttr { fd })
+    *call = Call::TcGetAttr { fd };
+    Some(())
 }
 
 /// `tcsetattr FD WHEN TERMIOS`
-fn read_tcsetattr(words: &mut Words) -> Option<Call>
-    ensures { result ≡ tcsetattr_of words.old }
+fn read_tcsetattr(words: &mut Words, call: &mut Call) -> Option<()>
+    ensures { option_map (λ _. call.new) result ≡ tcsetattr_of words.old }
 {
     let (fd, when, termios) = all_three(words)?;
     let fd = read_fd(fd)?;
     let when = read_when(when)?;
     let termios = read_termios(termios)?;
-    Some(Call::TcSetAttr { fd, when, termios })
+    *call = Call::TcSetAttr { fd, when, termios };
+    Some(())
 }
 
 /// `tcflush FD WHICH`
-fn read_tcflush(words: &mut Words) -> Option<Call>
-    ensures { result ≡ tcflush_of words.old }
+fn read_tcflush(words: &mut Words, call: &mut Call) -> Option<()>
+    ensures { option_map (λ _. call.new) result ≡ tcflush_of words.old }
 {
     let (fd, which) = both(words)?;
     let fd = read_fd(fd)?;
     let which = read_queue(which)?;
-    Some(Call::TcFlush { fd, which })
+    *call = Call::TcFlush { fd, which };
+    Some(())
 }
 
 /// `tcdrain FD`
-fn read_tcdrain(words: &mut Words) -> Option<Call>
-    ensures { result ≡ tcdrain_of words.old }
+fn read_tcdrain(words: &mut Words, call: &mut Call) -> Option<()>
+    ensures { option_map (λ _. call.new) result ≡ tcdrain_of words.old }
 {
     let fd = read_fd(only(words)?)?;
-    Some(Call::TcDrain { fd })
+    *call = Call::TcDrain { fd };
+    Some(())
 }
 
 /// `tcsetpgrp FD GROUP`
-fn read_tcsetpgrp(words: &mut Words) -> Option<Call>
-    ensures { result ≡ tcsetpgrp_of words.old }
+fn read_tcsetpgrp(words: &mut Words, call: &mut Call) -> Option<()>
+    ensures { option_map (λ _. call.new) result ≡ tcsetpgrp_of words.old }
 {
     let (fd, group) = both(words)?;
     let fd = read_fd(fd)?;
     let group = read_pid(group)?;
-    Some(Call::TcSetPgrp { fd, group })
+    *call = Call::TcSetPgrp { fd, group };
+    Some(())
 }
 
 /// `tcgetpgrp FD`
-fn read_tcgetpgrp(words: &mut Words) -> Option<Call>
-    ensures { result ≡ tcgetpgrp_of words.old }
+fn read_tcgetpgrp(words: &mut Words, call: &mut Call) -> Option<()>
+    ensures { option_map (λ _. call.new) result ≡ tcgetpgrp_of words.old }
 {
     let fd = read_fd(only(words)?)?;
-    Some(Call::TcGetPgrp { fd })
+    *call = Call::TcGetPgrp { fd };
+    Some(())
 }
 
 /// `fdname FD`
-fn read_fdname(words: &mut Words) -> Option<Call>
-    ensures { result ≡ fdname_of words.old }
+fn read_fdname(words: &mut Words, call: &mut Call) -> Option<()>
+    ensures { option_map (λ _. call.new) result ≡ fdname_of words.old }
 {
     let fd = read_fd(only(words)?)?;
-    Some(Call::FdName { fd })
+    *call = Call::FdName { fd };
+    Some(())
 }
 
 /// `revoke PATH`
-fn read_revoke(words: &mut Words) -> Option<Call>
-    ensures { result ≡ revoke_of words.old }
+fn read_revoke(words: &mut Words, call: &mut Call) -> Option<()>
+    ensures { option_map (λ _. call.new) result ≡ revoke_of words.old }
 {
     let path = only_path(words)?;
-    Some(Call::Revoke { path })
+    *call = Call::Revoke { path };
+    Some(())
 }
 
 /// A call on terminal lines: its name and its words.
 #[tactic(auto, unfolding(crate::specs::Tty::tty_call_of))]
-pub fn read_tty_call(name: &[u8], words: &mut Words) -> Option<Call>
-    ensures call { result ≡ tty_call_of name.now words.old }
-    ensures fit { IfSome result HasFitMode }
+pub fn read_tty_call(name: &[u8], words: &mut Words, call: &mut Call) -> Option<()>
+    ensures call { option_map (λ _. call.new) result ≡ tty_call_of name.now words.old }
+    ensures fit { OnSome result (HasFitMode call.new) }
 {
     if is_word(name, b"setctty") {
-        read_setctty(words)
+        read_setctty(words, call)
     } else if is_word(name, b"tcgetattr") {
-        read_tcgetattr(words)
+        read_tcgetattr(words, call)
     } else if is_word(name, b"tcsetattr") {
-        read_tcsetattr(words)
+        read_tcsetattr(words, call)
     } else if is_word(name, b"tcflush") {
-        read_tcflush(words)
+        read_tcflush(words, call)
     } else if is_word(name, b"tcdrain") {
-        read_tcdrain(words)
+        read_tcdrain(words, call)
     } else if is_word(name, b"tcsetpgrp") {
-        read_tcsetpgrp(words)
+        read_tcsetpgrp(words, call)
     } else if is_word(name, b"tcgetpgrp") {
-        read_tcgetpgrp(words)
+        read_tcgetpgrp(words, call)
     } else if is_word(name, b"fdname") {
-        read_fdname(words)
+        read_fdname(words, call)
     } else if is_word(name, b"revoke") {
-        read_revoke(words)
+        read_revoke(words, call)
     } else {
         None
     }
