@@ -13,6 +13,8 @@ mod discipline;
 #[cfg(test)]
 mod laws;
 #[cfg(test)]
+mod line_table;
+#[cfg(test)]
 mod lists;
 #[cfg(test)]
 mod outside;

@@ -3,6 +3,7 @@ mod CallScenes
 mod DirectoryScenes
 mod FileScenes
 mod FirstScenes
+mod LabelScenes
 mod ListingScenes
 mod OpenScenes
 mod PathScenes

@@ -160,6 +160,21 @@ interrupts : wrong [] (
 unfolding scenes_compute
 interrupts = refl
 
+-- a read that may not wait is not ready, also where a caught signal would interrupt the sleep
+no_sleep_to_interrupt : wrong [] (
+    codes "0 open /dev/tty7 rw n -> 0 ok 0"
+    ∷ codes "0 open /dev/tty7 rw -> 0 ok 1"
+    ∷ codes "0 sigset USR1 catch -> 0 ok 0"
+    ∷ codes "0 kill 1 USR1 -> 0 ok 0"
+    ∷ codes "0 read 0 9 -> 0 err EAGAIN not-ready"
+    ∷ codes "0 read 1 9 -> 0 err EINTR signal"
+    ∷ codes "0 sigtake -> 0 ok 30"
+    ∷ codes "0 read 0 9 -> 0 err EAGAIN not-ready"
+    ∷ codes "0 read 1 9 -> 0 sleep read"
+    ∷ []) ≡ []
+unfolding scenes_compute
+no_sleep_to_interrupt = refl
+
 -- a child that stops or ends posts CHLD to its parent
 child_signals : wrong [] (
     codes "0 fork -> 0 ok 2"

@@ -74,6 +74,21 @@ controlling_lines : wrong [] (
 unfolding scenes_compute
 controlling_lines = refl
 
+-- the session and its foreground stay with the line when its last file is closed
+last_close_leaves_the_session : wrong [] (
+    codes "up tty0 -> tty0 noted"
+    ∷ codes "0 fork -> 0 ok 2"
+    ∷ codes "1 setsid -> 1 ok 2"
+    ∷ codes "1 open /dev/tty0 rw -> 1 ok 0"
+    ∷ codes "1 setctty 0 -> 1 ok 0"
+    ∷ codes "1 close 0 -> 1 ok 0"
+    ∷ codes "1 open /dev/tty rw -> 1 ok 0"
+    ∷ codes "1 tcgetpgrp 0 -> 1 ok 2"
+    ∷ codes "1 setctty 0 -> 1 err EPERM has-tty"
+    ∷ []) ≡ []
+unfolding scenes_compute
+last_close_leaves_the_session = refl
+
 -- `/dev/tty` asks for the rights of the line's own node too
 own_line : wrong [] (
     codes "0 open /dev/tty7 rw -> 0 ok 0"
@@ -206,6 +221,23 @@ settings : wrong [] (
     ∷ []) ≡ []
 unfolding scenes_compute
 settings = refl
+
+-- a change of settings empties no output, and with `now` no input
+settings_leave_the_output : wrong [] (
+    codes "0 open /dev/tty7 rw n -> 0 ok 0"
+    ∷ codes "in tty7 61 -> tty7 noted"
+    ∷ codes "0 write 0 6f -> 0 ok 1"
+    ∷ codes "0 tcsetattr 0 flush raw -> 0 ok 0"
+    ∷ codes "0 read 0 9 -> 0 err EAGAIN not-ready"
+    ∷ codes "take tty7 9 -> tty7 out 6f"
+    ∷ codes "in tty7 62 -> tty7 noted"
+    ∷ codes "0 write 0 70 -> 0 ok 1"
+    ∷ codes "0 tcsetattr 0 now raw -> 0 ok 0"
+    ∷ codes "0 read 0 9 -> 0 bytes 62"
+    ∷ codes "take tty7 9 -> tty7 out 70"
+    ∷ []) ≡ []
+unfolding scenes_compute
+settings_leave_the_output = refl
 
 -- what is flushed
 flushes : wrong [] (
@@ -435,6 +467,25 @@ carrier_lost : wrong [] (
 unfolding scenes_compute
 carrier_lost = refl
 
+-- a loss of carrier and a revoke hang the leader up, and no other member of its group
+leader_alone_is_hung_up : wrong [] (
+    codes "up tty0 -> tty0 noted"
+    ∷ codes "0 open /dev/tty0 rw -> 0 ok 0"
+    ∷ codes "0 fork -> 0 ok 2"
+    ∷ codes "1 setsid -> 1 ok 2"
+    ∷ codes "1 setctty 0 -> 1 ok 0"
+    ∷ codes "1 sigset HUP catch -> 1 ok 0"
+    ∷ codes "1 fork -> 1 ok 3"
+    ∷ codes "down tty0 -> tty0 noted"
+    ∷ codes "2 sigtake -> 2 ok 0"
+    ∷ codes "1 sigtake -> 1 ok 1"
+    ∷ codes "0 revoke /dev/tty0 -> 0 ok 0"
+    ∷ codes "2 sigtake -> 2 ok 0"
+    ∷ codes "1 sigtake -> 1 ok 1"
+    ∷ []) ≡ []
+unfolding scenes_compute
+leader_alone_is_hung_up = refl
+
 -- a byte at a line without a live file, without carrier, or that is a zombie is dropped
 bytes_dropped : wrong [] (
     codes "in tty0 61 -> tty0 noted"
@@ -557,6 +608,47 @@ leader_ends : wrong [] (
 unfolding scenes_compute
 leader_ends = refl
 
+-- the end of a member of the leader's group that is not the leader takes no line and hangs nobody up
+end_of_another_member : wrong [] (
+    codes "up tty0 -> tty0 noted"
+    ∷ codes "0 open /dev/tty0 rw -> 0 ok 0"
+    ∷ codes "0 fork -> 0 ok 2"
+    ∷ codes "1 setsid -> 1 ok 2"
+    ∷ codes "1 setctty 0 -> 1 ok 0"
+    ∷ codes "1 sigset HUP catch -> 1 ok 0"
+    ∷ codes "1 fork -> 1 ok 3"
+    ∷ codes "2 exit 0 -> 2 ok 0"
+    ∷ codes "1 sigtake -> 1 ok 0"
+    ∷ codes "1 tcgetpgrp 0 -> 1 ok 2"
+    ∷ codes "1 write 0 61 -> 1 ok 1"
+    ∷ codes "take tty0 9 -> tty0 out 61"
+    ∷ []) ≡ []
+unfolding scenes_compute
+end_of_another_member = refl
+
+-- each member of the foreground group is hung up at its leader's exit, and nobody else
+foreground_is_hung_up : wrong [] (
+    codes "up tty0 -> tty0 noted"
+    ∷ codes "0 open /dev/tty0 rw -> 0 ok 0"
+    ∷ codes "0 fork -> 0 ok 2"
+    ∷ codes "1 setsid -> 1 ok 2"
+    ∷ codes "1 setctty 0 -> 1 ok 0"
+    ∷ codes "1 sigset HUP catch -> 1 ok 0"
+    ∷ codes "1 fork -> 1 ok 3"
+    ∷ codes "2 setpgid 0 0 -> 2 ok 0"
+    ∷ codes "1 fork -> 1 ok 4"
+    ∷ codes "3 setpgid 0 3 -> 3 ok 0"
+    ∷ codes "1 fork -> 1 ok 5"
+    ∷ codes "1 tcsetpgrp 0 3 -> 1 ok 0"
+    ∷ codes "1 exit 0 -> 1 ok 0"
+    ∷ codes "2 sigtake -> 2 ok 1"
+    ∷ codes "3 sigtake -> 3 ok 1"
+    ∷ codes "4 sigtake -> 4 ok 0"
+    ∷ codes "4 read 0 9 -> 4 bytes -"
+    ∷ []) ≡ []
+unfolding scenes_compute
+foreground_is_hung_up = refl
+
 -- sleepers of a revoked line are woken whatever they wait for, and a later byte is not theirs
 sleepers_of_a_revoked_line : wrong [] (
     codes "up tty0 -> tty0 noted"
@@ -611,6 +703,23 @@ close_of_a_dead_file : wrong [] (
 unfolding scenes_compute
 close_of_a_dead_file = refl
 
+-- and it keeps no line open: the queues go with the last file that is not dead
+dead_file_keeps_no_line : wrong [] (
+    codes "0 open /dev/tty7 rw -> 0 ok 0"
+    ∷ codes "0 revoke /dev/tty7 -> 0 ok 0"
+    ∷ codes "0 open /dev/tty7 rw n -> 0 ok 1"
+    ∷ codes "in tty7 61 -> tty7 noted"
+    ∷ codes "0 write 1 6f6c64 -> 0 ok 3"
+    ∷ codes "0 close 1 -> 0 ok 0"
+    ∷ codes "take tty7 9 -> tty7 out -"
+    ∷ codes "in tty7 62 -> tty7 noted"
+    ∷ codes "0 open /dev/tty7 rw n -> 0 ok 1"
+    ∷ codes "0 read 1 9 -> 0 err EAGAIN not-ready"
+    ∷ codes "take tty7 9 -> tty7 out -"
+    ∷ []) ≡ []
+unfolding scenes_compute
+dead_file_keeps_no_line = refl
+
 -- labels of a line are looked at again where the boot says so, at its own node
 recheck_of_lines : wrong (codes "recheck on\n") (
     codes "0 open /dev/tty7 rw n -> 0 ok 0"
@@ -655,6 +764,50 @@ other_open_files : wrong [] (
     ∷ []) ≡ []
 unfolding scenes_compute
 other_open_files = refl
+
+-- a revoke is of its line alone: files of other lines, regular files and pipes stay
+revoke_of_each_line : wrong [] (
+    codes "0 open /tmp/f rw c -> 0 ok 0"
+    ∷ codes "0 pipe -> 0 pair 1 2"
+    ∷ codes "0 open /dev/tty0 rw n -> 0 ok 3"
+    ∷ codes "0 open /dev/tty1 rw n -> 0 ok 4"
+    ∷ codes "0 open /dev/tty2 rw n -> 0 ok 5"
+    ∷ codes "0 open /dev/tty3 rw n -> 0 ok 6"
+    ∷ codes "0 open /dev/tty4 rw n -> 0 ok 7"
+    ∷ codes "0 open /dev/tty5 rw n -> 0 ok 8"
+    ∷ codes "0 open /dev/tty6 rw n -> 0 ok 9"
+    ∷ codes "0 open /dev/tty7 rw n -> 0 ok 10"
+    ∷ codes "0 revoke /dev/tty0 -> 0 ok 0"
+    ∷ codes "0 write 3 61 -> 0 err EIO dead"
+    ∷ codes "0 write 4 61 -> 0 ok 1"
+    ∷ codes "0 revoke /dev/tty1 -> 0 ok 0"
+    ∷ codes "0 write 4 61 -> 0 err EIO dead"
+    ∷ codes "0 write 5 61 -> 0 ok 1"
+    ∷ codes "0 revoke /dev/tty2 -> 0 ok 0"
+    ∷ codes "0 write 5 61 -> 0 err EIO dead"
+    ∷ codes "0 write 6 61 -> 0 ok 1"
+    ∷ codes "0 revoke /dev/tty3 -> 0 ok 0"
+    ∷ codes "0 write 6 61 -> 0 err EIO dead"
+    ∷ codes "0 write 7 61 -> 0 ok 1"
+    ∷ codes "0 revoke /dev/tty4 -> 0 ok 0"
+    ∷ codes "0 write 7 61 -> 0 err EIO dead"
+    ∷ codes "0 write 8 61 -> 0 ok 1"
+    ∷ codes "0 revoke /dev/tty5 -> 0 ok 0"
+    ∷ codes "0 write 8 61 -> 0 err EIO dead"
+    ∷ codes "0 write 9 61 -> 0 ok 1"
+    ∷ codes "0 revoke /dev/tty6 -> 0 ok 0"
+    ∷ codes "0 write 9 61 -> 0 err EIO dead"
+    ∷ codes "0 write 10 61 -> 0 ok 1"
+    ∷ codes "0 revoke /dev/tty7 -> 0 ok 0"
+    ∷ codes "0 write 10 61 -> 0 err EIO dead"
+    ∷ codes "0 write 0 61 -> 0 ok 1"
+    ∷ codes "0 write 2 61 -> 0 ok 1"
+    ∷ codes "0 read 1 9 -> 0 bytes 61"
+    ∷ codes "0 open /tmp/f r -> 0 ok 11"
+    ∷ codes "0 read 11 9 -> 0 bytes 61"
+    ∷ []) ≡ []
+unfolding scenes_compute
+revoke_of_each_line = refl
 
 -- a read and a change from the background stop the whole group, and no other
 background_group : wrong [] (
