@@ -15,6 +15,7 @@ mod SignalRows
 mod ForkRows
 mod EndingRows
 mod WaitRows
+mod JobRows
 pub mod SoundLemmas
 pub mod PendingLemmas
 pub mod RunningLemmas

@@ -1,7 +1,13 @@
 -- Pipes: their room, their ends, and the signal to a writer without a reader.
-use Rattle.std.proofs.Common.{◌≡◌, [], ◌∷◌, codes, refl}
+use Rattle.std.proofs.Common.{◌≡◌, ℕ, [], ◌∷◌, codes, refl}
+use Rattle.system_model.specs.Keeping.{end_name}
+use Rattle.system_model.specs.Parts.{read_end, write_end}
 use Rattle.system_rows.specs.Scenes.{wrong}
 use Rattle.system_rows.proofs.Computing.{scenes_compute}
+
+-- the two ends of a pipe have two names
+two_names : (k : ℕ) → (end_name (read_end k), end_name (write_end k)) ≡ (0, 1)
+two_names k = refl
 
 -- a pipe takes two numbers; each end does its own
 ends : wrong [] (

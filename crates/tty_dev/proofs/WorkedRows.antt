@@ -6,7 +6,7 @@ use Rattle.block_pool.specs.Chain.{ChainState}
 use Rattle.line_disc.specs.Device.{closed_device, open_file}
 use Rattle.tty_dev.specs.Table.{devices, lines_held, counts_of, boots_of, count_at, use_line, is_dead_at, is_last_at}
 use Rattle.tty_dev.specs.Line.{LineState, boot_termios, termios_of, device_of, held_by, is_dead, is_last, live_after}
-use Rattle.tty_dev.specs.History.{opens, closes, revokes, at_first, after, is_revoked_in, files_after_use, may_close}
+use Rattle.tty_dev.specs.History.{Use, opens, closes, revokes, at_first, after, is_revoked_in, files_after_use, may_close, Leads, nothing, one_more}
 
 -- Which files are dead.
 
@@ -105,6 +105,29 @@ may_close_dead = refl
 
 may_not_close : may_close (record { generation = 3; live = 0 }) [] (closes 3) ≡ false
 may_not_close = refl
+
+-- an open and a revoke may come at any time
+
+may_open : may_close (record { generation = 3; live = 0 }) [] opens ≡ true
+may_open = refl
+
+may_revoke : may_close (record { generation = 3; live = 0 }) [] revokes ≡ true
+may_revoke = refl
+
+-- a line is opened, revoked and opened, and both files are closed: the last thing done is written first
+
+abbrev opened_revoked_opened : List Use
+opened_revoked_opened = opens ∷ revokes ∷ opens ∷ []
+
+one_file_left : Leads opened_revoked_opened (record { generation = 1; live = 1 }) (1 ∷ [])
+one_file_left =
+    one_more (revokes ∷ opens ∷ []) (record { generation = 1; live = 0 }) [] opens
+    (one_more (opens ∷ []) (record { generation = 0; live = 1 }) (0 ∷ []) revokes (one_more [] at_first [] opens nothing refl) refl) refl
+
+no_file_left : Leads (closes 1 ∷ closes 0 ∷ opened_revoked_opened) (record { generation = 1; live = 0 }) []
+no_file_left =
+    one_more (closes 0 ∷ opened_revoked_opened) (record { generation = 1; live = 1 }) (1 ∷ []) (closes 1)
+    (one_more opened_revoked_opened (record { generation = 1; live = 1 }) (1 ∷ []) (closes 0) one_file_left refl) refl
 
 -- Lines by their numbers: the first has two live files and is cooked, the second has none and is raw.
 
