@@ -6,8 +6,8 @@ use Rattle.system_rows.specs.Scenes.{wrong}
 use Rattle.system_rows.proofs.Computing.{scenes_compute}
 
 -- the two ends of a pipe have two names
-two_names : (k : ℕ) → (end_name (read_end k), end_name (write_end k)) ≡ (0, 1)
-two_names k = refl
+two_names : (k : ℕ) → (end_name (read_end k) ≡ 0) × (end_name (write_end k) ≡ 1)
+two_names k = (refl, refl)
 
 -- a pipe takes two numbers; each end does its own
 ends : wrong [] (
