@@ -2,7 +2,7 @@
 ghost use Rattle.system_model.specs.Fit.{IsCaller};
 ghost use Rattle.system_model.specs.OpenCalls.{open_row, close_row, dup_row, dup2_row};
 ghost use Rattle.system_model.specs.PipeCalls.{pipe_row};
-ghost use Rattle.std.specs.Prelude.{◌≡◌, ◌≤◌, true, None, IfOk, OnErr};
+ghost use Rattle.std.specs.Prelude.{◌≡◌, ◌≤◌, true, None, OnOk, OnErr};
 ghost use Rattle.system_model.specs.IoCalls.{read_row, write_row};
 ghost use Rattle.system_model.specs.Looks.{file_at};
 ghost use Rattle.system_model.specs.Rows.{Does, first};
@@ -26,13 +26,14 @@ impl System {
         access: Access,
         flags: OpenFlags,
         mode: u16,
-    ) -> Decision
+        decision: &mut Decision,
+    )
         requires caller { IsCaller self.old.processes slot }
         requires mode { mode ≤ 0o777 }
-        ensures does { Does (view_of self.old) (view_of self.new) result (open_row (view_of self.old) slot path.now access flags mode) }
+        ensures does { Does (view_of self.old) (view_of self.new) decision.new (open_row (view_of self.old) slot path.now access flags mode) }
         ensures revokes { RevokesNone self.old self.new }
     {
-        do_open(
+        *decision = do_open(
             &mut self.tree,
             &mut self.fds,
             &self.procs,
@@ -43,41 +44,41 @@ impl System {
             access,
             flags,
             mode,
-        )
+        );
     }
 
     /// close(2).
-    pub(crate) fn close(&mut self, slot: u8, fd: u8) -> Decision
+    pub(crate) fn close(&mut self, slot: u8, fd: u8, decision: &mut Decision)
         requires caller { IsCaller self.old.processes slot }
-        ensures does { Does (view_of self.old) (view_of self.new) result (close_row (view_of self.old) slot fd) }
+        ensures does { Does (view_of self.old) (view_of self.new) decision.new (close_row (view_of self.old) slot fd) }
         ensures revokes { RevokesNone self.old self.new }
     {
-        do_close(
+        *decision = do_close(
             &mut self.fds,
             &mut self.pipes,
             &mut self.pool,
             &mut self.lines,
             slot,
             fd,
-        )
+        );
     }
 
     /// dup(2).
-    pub(crate) fn dup(&mut self, slot: u8, fd: u8) -> Decision
+    pub(crate) fn dup(&mut self, slot: u8, fd: u8, decision: &mut Decision)
         requires caller { IsCaller self.old.processes slot }
-        ensures does { Does (view_of self.old) (view_of self.new) result (dup_row (view_of self.old) slot fd) }
+        ensures does { Does (view_of self.old) (view_of self.new) decision.new (dup_row (view_of self.old) slot fd) }
         ensures revokes { RevokesNone self.old self.new }
     {
-        do_dup(&mut self.fds, slot, fd)
+        *decision = do_dup(&mut self.fds, slot, fd);
     }
 
     /// dup2(2).
-    pub(crate) fn dup2(&mut self, slot: u8, fd: u8, to: u8) -> Decision
+    pub(crate) fn dup2(&mut self, slot: u8, fd: u8, to: u8, decision: &mut Decision)
         requires caller { IsCaller self.old.processes slot }
-        ensures does { Does (view_of self.old) (view_of self.new) result (dup2_row (view_of self.old) slot fd to) }
+        ensures does { Does (view_of self.old) (view_of self.new) decision.new (dup2_row (view_of self.old) slot fd to) }
         ensures revokes { RevokesNone self.old self.new }
     {
-        do_dup2(
+        *decision = do_dup2(
             &mut self.fds,
             &mut self.pipes,
             &mut self.pool,
@@ -85,31 +86,31 @@ impl System {
             slot,
             fd,
             to,
-        )
+        );
     }
 
     /// pipe(2).
-    pub(crate) fn pipe(&mut self, slot: u8) -> Decision
+    pub(crate) fn pipe(&mut self, slot: u8, decision: &mut Decision)
         requires caller { IsCaller self.old.processes slot }
-        ensures does { Does (view_of self.old) (view_of self.new) result (pipe_row (view_of self.old) slot) }
+        ensures does { Does (view_of self.old) (view_of self.new) decision.new (pipe_row (view_of self.old) slot) }
         ensures revokes { RevokesNone self.old self.new }
     {
-        do_pipe(
+        *decision = do_pipe(
             &mut self.fds,
             &mut self.pipes,
             &self.procs,
             &mut self.pool,
             slot,
-        )
+        );
     }
 
     /// read(2).
-    pub(crate) fn read(&mut self, slot: u8, fd: u8, max: u16) -> Decision
+    pub(crate) fn read(&mut self, slot: u8, fd: u8, max: u16, decision: &mut Decision)
         requires caller { IsCaller self.old.processes slot }
-        ensures does { Does (view_of self.old) (view_of self.new) result (read_row (view_of self.old) slot fd max) }
+        ensures does { Does (view_of self.old) (view_of self.new) decision.new (read_row (view_of self.old) slot fd max) }
         ensures revokes { RevokesNone self.old self.new }
     {
-        do_read(
+        *decision = do_read(
             &self.tree,
             &mut self.fds,
             &mut self.pipes,
@@ -121,19 +122,25 @@ impl System {
             slot,
             fd,
             max,
-        )
+        );
     }
 
     /// write(2). `NoMemory` comes of a regular file alone, where no check holds; then nothing has changed.
-    pub(crate) fn write(&mut self, slot: u8, fd: u8, bytes: &Piece) -> Result<Decision, NoMemory>
+    pub(crate) fn write(
+        &mut self,
+        slot: u8,
+        fd: u8,
+        bytes: &Piece,
+        decision: &mut Decision,
+    ) -> Result<(), NoMemory>
         requires caller { IsCaller self.old.processes slot }
-        ensures does { IfOk result (λ decision. Does (view_of self.old) (view_of self.new) decision (write_row (view_of self.old) slot fd bytes.now)) }
+        ensures does { OnOk result (Does (view_of self.old) (view_of self.new) decision.new (write_row (view_of self.old) slot fd bytes.now)) }
         ensures revokes { RevokesNone self.old self.new }
         ensures nothing { OnErr result (self.new ≡ self.old) }
         ensures memory { OnErr result (is_regular (file_at (view_of self.old) slot fd) ≡ true) }
         ensures free { OnErr result (first (write_row (view_of self.old) slot fd bytes.now).checks ≡ None) }
     {
-        do_write(
+        *decision = do_write(
             &mut self.tree,
             &mut self.fds,
             &mut self.pipes,
@@ -145,6 +152,7 @@ impl System {
             slot,
             fd,
             bytes,
-        )
+        )?;
+        Ok(())
     }
 }

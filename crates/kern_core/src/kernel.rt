@@ -89,10 +89,21 @@ impl Machine for Kernel {
 
     ghost no_wakeups = { nobody };
 
-    fn step(&mut self, _pos: u32, event: &Event, wakes: &mut Wakes) -> Result<Decision, NoMemory> {
+    fn step(&mut self, pos: u32, event: &Event, wakes: &mut Wakes) -> Result<Decision, NoMemory> {
         let mut decision = Decision::Noted;
-        self.system.step(event, &mut decision, wakes)?;
+        self.step_into(pos, event, &mut decision, wakes)?;
         Ok(decision)
+    }
+
+    fn step_into(
+        &mut self,
+        _pos: u32,
+        event: &Event,
+        into: &mut Decision,
+        wakes: &mut Wakes,
+    ) -> Result<(), NoMemory> {
+        self.system.step(event, into, wakes)?;
+        Ok(())
     }
 
     fn no_wakes() -> Wakes {

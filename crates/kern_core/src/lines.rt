@@ -12,60 +12,60 @@ use tty_calls::{do_byte, do_carrier, do_end, do_take};
 
 impl System {
     /// A byte comes in.
-    pub(crate) fn byte(&mut self, line: u8, byte: u8) -> Decision
+    pub(crate) fn byte(&mut self, line: u8, byte: u8, decision: &mut Decision)
         requires { line < LINES }
-        ensures does { Does (view_of self.old) (view_of self.new) result (byte_row (view_of self.old) line byte) }
+        ensures does { Does (view_of self.old) (view_of self.new) decision.new (byte_row (view_of self.old) line byte) }
         ensures revokes { RevokesNone self.old self.new }
     {
-        do_byte(
+        *decision = do_byte(
             &mut self.procs,
             &mut self.pool,
             &mut self.lines,
             &mut self.ending,
             line,
             byte,
-        )
+        );
     }
 
     /// The carrier comes, or is lost.
-    pub(crate) fn carrier(&mut self, line: u8, up: bool) -> Decision
+    pub(crate) fn carrier(&mut self, line: u8, up: bool, decision: &mut Decision)
         requires { line < LINES }
-        ensures does { Does (view_of self.old) (view_of self.new) result (carrier_row (view_of self.old) line up) }
+        ensures does { Does (view_of self.old) (view_of self.new) decision.new (carrier_row (view_of self.old) line up) }
         ensures revokes { RevokesNone self.old self.new }
     {
-        do_carrier(
+        *decision = do_carrier(
             &mut self.procs,
             &mut self.pool,
             &mut self.lines,
             &mut self.ending,
             line,
             up,
-        )
+        );
     }
 
     /// Up to `max` bytes of the output are taken for sending, at most 512.
-    pub(crate) fn take(&mut self, line: u8, max: u16) -> Decision
+    pub(crate) fn take(&mut self, line: u8, max: u16, decision: &mut Decision)
         requires line { line < LINES }
         requires most { max ≤ PIECE_BYTES }
-        ensures does { Does (view_of self.old) (view_of self.new) result (take_row (view_of self.old) line max) }
+        ensures does { Does (view_of self.old) (view_of self.new) decision.new (take_row (view_of self.old) line max) }
         ensures revokes { RevokesNone self.old self.new }
     {
-        do_take(&self.pool, &mut self.lines, line, max)
+        *decision = do_take(&self.pool, &mut self.lines, line, max);
     }
 
     /// The other side is gone for good.
-    pub(crate) fn end(&mut self, line: u8) -> Decision
+    pub(crate) fn end(&mut self, line: u8, decision: &mut Decision)
         requires { line < LINES }
-        ensures does { Does (view_of self.old) (view_of self.new) result (end_row (view_of self.old) line) }
+        ensures does { Does (view_of self.old) (view_of self.new) decision.new (end_row (view_of self.old) line) }
         ensures revokes { RevokesNone self.old self.new }
     {
-        do_end(
+        *decision = do_end(
             &mut self.procs,
             &mut self.pool,
             &mut self.lines,
             &mut self.ending,
             &mut self.halted,
             line,
-        )
+        );
     }
 }

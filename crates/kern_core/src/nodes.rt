@@ -18,75 +18,82 @@ use node_calls::{
 
 impl System {
     /// chdir(2).
-    pub(crate) fn chdir(&mut self, slot: u8, path: &PathText) -> Decision
+    pub(crate) fn chdir(&mut self, slot: u8, path: &PathText, decision: &mut Decision)
         requires caller { IsCaller self.old.processes slot }
-        ensures does { Does (view_of self.old) (view_of self.new) result (chdir_row (view_of self.old) slot path.now) }
+        ensures does { Does (view_of self.old) (view_of self.new) decision.new (chdir_row (view_of self.old) slot path.now) }
         ensures revokes { RevokesNone self.old self.new }
     {
-        do_chdir(&self.tree, &mut self.procs, slot, path)
+        *decision = do_chdir(&self.tree, &mut self.procs, slot, path);
     }
 
     /// mkdir(2).
-    pub(crate) fn mkdir(&mut self, slot: u8, path: &PathText, mode: u16) -> Decision
+    pub(crate) fn mkdir(&mut self, slot: u8, path: &PathText, mode: u16, decision: &mut Decision)
         requires caller { IsCaller self.old.processes slot }
         requires mode { mode ≤ 0o777 }
-        ensures does { Does (view_of self.old) (view_of self.new) result (mkdir_row (view_of self.old) slot path.now mode) }
+        ensures does { Does (view_of self.old) (view_of self.new) decision.new (mkdir_row (view_of self.old) slot path.now mode) }
         ensures revokes { RevokesNone self.old self.new }
     {
-        do_mkdir(&mut self.tree, &self.procs, slot, path, mode)
+        *decision = do_mkdir(&mut self.tree, &self.procs, slot, path, mode);
     }
 
     /// rmdir(2).
-    pub(crate) fn rmdir(&mut self, slot: u8, path: &PathText) -> Decision
+    pub(crate) fn rmdir(&mut self, slot: u8, path: &PathText, decision: &mut Decision)
         requires caller { IsCaller self.old.processes slot }
-        ensures does { Does (view_of self.old) (view_of self.new) result (rmdir_row (view_of self.old) slot path.now) }
+        ensures does { Does (view_of self.old) (view_of self.new) decision.new (rmdir_row (view_of self.old) slot path.now) }
         ensures revokes { RevokesNone self.old self.new }
     {
-        do_rmdir(&mut self.tree, &self.procs, slot, path)
+        *decision = do_rmdir(&mut self.tree, &self.procs, slot, path);
     }
 
     /// unlink(2).
-    pub(crate) fn unlink(&mut self, slot: u8, path: &PathText) -> Decision
+    pub(crate) fn unlink(&mut self, slot: u8, path: &PathText, decision: &mut Decision)
         requires caller { IsCaller self.old.processes slot }
-        ensures does { Does (view_of self.old) (view_of self.new) result (unlink_row (view_of self.old) slot path.now) }
+        ensures does { Does (view_of self.old) (view_of self.new) decision.new (unlink_row (view_of self.old) slot path.now) }
         ensures revokes { RevokesNone self.old self.new }
     {
-        do_unlink(&mut self.tree, &self.fds, &self.procs, slot, path)
+        *decision = do_unlink(&mut self.tree, &self.fds, &self.procs, slot, path);
     }
 
     /// readdir(3).
-    pub(crate) fn list(&self, slot: u8, path: &PathText, from: u16) -> Decision
+    pub(crate) fn list(&self, slot: u8, path: &PathText, from: u16, decision: &mut Decision)
         requires { IsCaller self.now.processes slot }
-        ensures { Does (view_of self.now) (view_of self.now) result (list_row (view_of self.now) slot path.now from) }
+        ensures { Does (view_of self.now) (view_of self.now) decision.new (list_row (view_of self.now) slot path.now from) }
     {
-        do_list(&self.tree, &self.procs, slot, path, from)
+        *decision = do_list(&self.tree, &self.procs, slot, path, from);
     }
 
     /// stat(2).
-    pub(crate) fn info(&self, slot: u8, path: &PathText) -> Decision
+    pub(crate) fn info(&self, slot: u8, path: &PathText, decision: &mut Decision)
         requires { IsCaller self.now.processes slot }
-        ensures { Does (view_of self.now) (view_of self.now) result (info_row (view_of self.now) slot path.now) }
+        ensures { Does (view_of self.now) (view_of self.now) decision.new (info_row (view_of self.now) slot path.now) }
     {
-        do_info(&self.tree, &self.procs, slot, path)
+        *decision = do_info(&self.tree, &self.procs, slot, path);
     }
 
     /// chmod(2).
-    pub(crate) fn chmod(&mut self, slot: u8, path: &PathText, mode: u16) -> Decision
+    pub(crate) fn chmod(&mut self, slot: u8, path: &PathText, mode: u16, decision: &mut Decision)
         requires caller { IsCaller self.old.processes slot }
         requires mode { mode ≤ 0o777 }
-        ensures does { Does (view_of self.old) (view_of self.new) result (chmod_row (view_of self.old) slot path.now mode) }
+        ensures does { Does (view_of self.old) (view_of self.new) decision.new (chmod_row (view_of self.old) slot path.now mode) }
         ensures revokes { RevokesNone self.old self.new }
     {
-        do_chmod(&mut self.tree, &self.procs, slot, path, mode)
+        *decision = do_chmod(&mut self.tree, &self.procs, slot, path, mode);
     }
 
     /// chown(2).
-    pub(crate) fn chown(&mut self, slot: u8, path: &PathText, uid: u32, gid: u32) -> Decision
+    pub(crate) fn chown(
+        &mut self,
+        slot: u8,
+        path: &PathText,
+        uid: u32,
+        gid: u32,
+        decision: &mut Decision,
+    )
         requires caller { IsCaller self.old.processes slot }
-        ensures does { Does (view_of self.old) (view_of self.new) result (chown_row (view_of self.old) slot path.now uid gid) }
+        ensures does { Does (view_of self.old) (view_of self.new) decision.new (chown_row (view_of self.old) slot path.now uid gid) }
         ensures revokes { RevokesNone self.old self.new }
     {
-        do_chown(&mut self.tree, &self.procs, slot, path, uid, gid)
+        *decision = do_chown(&mut self.tree, &self.procs, slot, path, uid, gid);
     }
 
     /// acl_set_file(3).
@@ -96,47 +103,60 @@ impl System {
         path: &PathText,
         which: WhichList,
         entries: &Entries,
-    ) -> Decision
+        decision: &mut Decision,
+    )
         requires caller { IsCaller self.old.processes slot }
-        ensures does { Does (view_of self.old) (view_of self.new) result (setacl_row (view_of self.old) slot path.now which entries.now) }
+        ensures does { Does (view_of self.old) (view_of self.new) decision.new (setacl_row (view_of self.old) slot path.now which entries.now) }
         ensures revokes { RevokesNone self.old self.new }
     {
-        do_setacl(&mut self.tree, &self.procs, slot, path, which, entries)
+        *decision = do_setacl(&mut self.tree, &self.procs, slot, path, which, entries);
     }
 
     /// acl_get_file(3).
-    pub(crate) fn get_acl(&self, slot: u8, path: &PathText, which: WhichList) -> Decision
+    pub(crate) fn get_acl(
+        &self,
+        slot: u8,
+        path: &PathText,
+        which: WhichList,
+        decision: &mut Decision,
+    )
         requires { IsCaller self.now.processes slot }
-        ensures { Does (view_of self.now) (view_of self.now) result (getacl_row (view_of self.now) slot path.now which) }
+        ensures { Does (view_of self.now) (view_of self.now) decision.new (getacl_row (view_of self.now) slot path.now which) }
     {
-        do_getacl(&self.tree, &self.procs, slot, path, which)
+        *decision = do_getacl(&self.tree, &self.procs, slot, path, which);
     }
 
     /// mac_set_file(3).
-    pub(crate) fn set_label(&mut self, slot: u8, path: &PathText, element: &Element) -> Decision
+    pub(crate) fn set_label(
+        &mut self,
+        slot: u8,
+        path: &PathText,
+        element: &Element,
+        decision: &mut Decision,
+    )
         requires caller { IsCaller self.old.processes slot }
-        ensures does { Does (view_of self.old) (view_of self.new) result (setlabel_row (view_of self.old) slot path.now element.now) }
+        ensures does { Does (view_of self.old) (view_of self.new) decision.new (setlabel_row (view_of self.old) slot path.now element.now) }
         ensures revokes { RevokesNone self.old self.new }
     {
-        do_setlabel(&mut self.tree, &self.procs, slot, path, element)
+        *decision = do_setlabel(&mut self.tree, &self.procs, slot, path, element);
     }
 
     /// mac_get_file(3).
-    pub(crate) fn get_label(&self, slot: u8, path: &PathText) -> Decision
+    pub(crate) fn get_label(&self, slot: u8, path: &PathText, decision: &mut Decision)
         requires { IsCaller self.now.processes slot }
-        ensures { Does (view_of self.now) (view_of self.now) result (getlabel_row (view_of self.now) slot path.now) }
+        ensures { Does (view_of self.now) (view_of self.now) decision.new (getlabel_row (view_of self.now) slot path.now) }
     {
-        do_getlabel(&self.tree, &self.procs, slot, path)
+        *decision = do_getlabel(&self.tree, &self.procs, slot, path);
     }
 
     /// revoke(2).
-    pub(crate) fn revoke(&mut self, slot: u8, path: &PathText) -> Decision
+    pub(crate) fn revoke(&mut self, slot: u8, path: &PathText, decision: &mut Decision)
         requires caller { IsCaller self.old.processes slot }
         requires few { AreRevokedAtMost (2 ^ 63 - 1) self.old.pool self.old.lines }
-        ensures does { Does (view_of self.old) (view_of self.new) result (revoke_row (view_of self.old) slot path.now) }
+        ensures does { Does (view_of self.old) (view_of self.new) decision.new (revoke_row (view_of self.old) slot path.now) }
         ensures revokes { RevokesOnce self.old self.new }
     {
-        do_revoke(
+        *decision = do_revoke(
             &self.tree,
             &mut self.procs,
             &mut self.pool,
@@ -144,6 +164,6 @@ impl System {
             &mut self.ending,
             slot,
             path,
-        )
+        );
     }
 }

@@ -22,137 +22,137 @@ use sys_types::{Piece, Sig};
 
 impl System {
     /// getpid(2) and its like.
-    pub(crate) fn ident(&self, slot: u8) -> Decision
+    pub(crate) fn ident(&self, slot: u8, decision: &mut Decision)
         requires { IsCaller self.now.processes slot }
-        ensures { Does (view_of self.now) (view_of self.now) result (ident_row (view_of self.now) slot) }
+        ensures { Does (view_of self.now) (view_of self.now) decision.new (ident_row (view_of self.now) slot) }
     {
-        do_ident(&self.procs, slot)
+        *decision = do_ident(&self.procs, slot);
     }
 
     /// setuid(2) and its like.
-    pub(crate) fn set_cred(&mut self, slot: u8, cred: &Cred) -> Decision
+    pub(crate) fn set_cred(&mut self, slot: u8, cred: &Cred, decision: &mut Decision)
         requires caller { IsCaller self.old.processes slot }
-        ensures does { Does (view_of self.old) (view_of self.new) result (setcred_row (view_of self.old) slot cred.now) }
+        ensures does { Does (view_of self.old) (view_of self.new) decision.new (setcred_row (view_of self.old) slot cred.now) }
         ensures revokes { RevokesNone self.old self.new }
     {
-        do_setcred(&mut self.procs, slot, cred)
+        *decision = do_setcred(&mut self.procs, slot, cred);
     }
 
     /// mac_set_proc(3).
-    pub(crate) fn set_proc_label(&mut self, slot: u8, subject: &Subject) -> Decision
+    pub(crate) fn set_proc_label(&mut self, slot: u8, subject: &Subject, decision: &mut Decision)
         requires caller { IsCaller self.old.processes slot }
-        ensures does { Does (view_of self.old) (view_of self.new) result (setproclabel_row (view_of self.old) slot subject.now) }
+        ensures does { Does (view_of self.old) (view_of self.new) decision.new (setproclabel_row (view_of self.old) slot subject.now) }
         ensures revokes { RevokesNone self.old self.new }
     {
-        do_setproclabel(&mut self.procs, slot, subject)
+        *decision = do_setproclabel(&mut self.procs, slot, subject);
     }
 
     /// umask(2).
-    pub(crate) fn umask(&mut self, slot: u8, mode: u16) -> Decision
+    pub(crate) fn umask(&mut self, slot: u8, mode: u16, decision: &mut Decision)
         requires caller { IsCaller self.old.processes slot }
-        ensures does { Does (view_of self.old) (view_of self.new) result (umask_row (view_of self.old) slot mode) }
+        ensures does { Does (view_of self.old) (view_of self.new) decision.new (umask_row (view_of self.old) slot mode) }
         ensures revokes { RevokesNone self.old self.new }
     {
-        do_umask(&mut self.procs, slot, mode)
+        *decision = do_umask(&mut self.procs, slot, mode);
     }
 
     /// The first call of a process.
-    pub(crate) fn begin(&mut self, slot: u8) -> Decision
+    pub(crate) fn begin(&mut self, slot: u8, decision: &mut Decision)
         requires caller { IsCaller self.old.processes slot }
-        ensures does { Does (view_of self.old) (view_of self.new) result (begin_row (view_of self.old) slot) }
+        ensures does { Does (view_of self.old) (view_of self.new) decision.new (begin_row (view_of self.old) slot) }
         ensures revokes { RevokesNone self.old self.new }
     {
-        do_begin(&mut self.procs, slot)
+        *decision = do_begin(&mut self.procs, slot);
     }
 
     /// fork(2).
-    pub(crate) fn fork(&mut self, slot: u8, note: &Piece) -> Decision
+    pub(crate) fn fork(&mut self, slot: u8, note: &Piece, decision: &mut Decision)
         requires caller { IsCaller self.old.processes slot }
         requires pid { self.old.processes.next_pid + 1 < 2 ^ 32 }
-        ensures does { Does (view_of self.old) (view_of self.new) result (fork_row (view_of self.old) slot note.now) }
+        ensures does { Does (view_of self.old) (view_of self.new) decision.new (fork_row (view_of self.old) slot note.now) }
         ensures revokes { RevokesNone self.old self.new }
     {
-        do_fork(&mut self.fds, &mut self.procs, slot, note)
+        *decision = do_fork(&mut self.fds, &mut self.procs, slot, note);
     }
 
     /// _exit(2).
-    pub(crate) fn exit(&mut self, slot: u8, status: u8) -> Decision
+    pub(crate) fn exit(&mut self, slot: u8, status: u8, decision: &mut Decision)
         requires caller { IsCaller self.old.processes slot }
-        ensures does { Does (view_of self.old) (view_of self.new) result (exit_row (view_of self.old) slot status) }
+        ensures does { Does (view_of self.old) (view_of self.new) decision.new (exit_row (view_of self.old) slot status) }
         ensures revokes { RevokesNone self.old self.new }
     {
-        do_exit(&self.procs, &mut self.ending, slot, status)
+        *decision = do_exit(&self.procs, &mut self.ending, slot, status);
     }
 
     /// wait4(2).
-    pub(crate) fn wait(&mut self, slot: u8, pid: u32, flags: WaitFlags) -> Decision
+    pub(crate) fn wait(&mut self, slot: u8, pid: u32, flags: WaitFlags, decision: &mut Decision)
         requires caller { IsCaller self.old.processes slot }
-        ensures does { Does (view_of self.old) (view_of self.new) result (wait_row (view_of self.old) slot pid flags) }
+        ensures does { Does (view_of self.old) (view_of self.new) decision.new (wait_row (view_of self.old) slot pid flags) }
         ensures revokes { RevokesNone self.old self.new }
     {
-        do_wait(&mut self.procs, slot, pid, flags)
+        *decision = do_wait(&mut self.procs, slot, pid, flags);
     }
 
     /// setsid(2).
-    pub(crate) fn setsid(&mut self, slot: u8) -> Decision
+    pub(crate) fn setsid(&mut self, slot: u8, decision: &mut Decision)
         requires caller { IsCaller self.old.processes slot }
-        ensures does { Does (view_of self.old) (view_of self.new) result (setsid_row (view_of self.old) slot) }
+        ensures does { Does (view_of self.old) (view_of self.new) decision.new (setsid_row (view_of self.old) slot) }
         ensures revokes { RevokesNone self.old self.new }
     {
-        do_setsid(&mut self.procs, slot)
+        *decision = do_setsid(&mut self.procs, slot);
     }
 
     /// setpgid(2).
-    pub(crate) fn setpgid(&mut self, slot: u8, pid: u32, group: u32) -> Decision
+    pub(crate) fn setpgid(&mut self, slot: u8, pid: u32, group: u32, decision: &mut Decision)
         requires caller { IsCaller self.old.processes slot }
-        ensures does { Does (view_of self.old) (view_of self.new) result (setpgid_row (view_of self.old) slot pid group) }
+        ensures does { Does (view_of self.old) (view_of self.new) decision.new (setpgid_row (view_of self.old) slot pid group) }
         ensures revokes { RevokesNone self.old self.new }
     {
-        do_setpgid(&mut self.procs, slot, pid, group)
+        *decision = do_setpgid(&mut self.procs, slot, pid, group);
     }
 
     /// kill(2).
-    pub(crate) fn kill(&mut self, slot: u8, to: To, sig: Sig) -> Decision
+    pub(crate) fn kill(&mut self, slot: u8, to: To, sig: Sig, decision: &mut Decision)
         requires caller { IsCaller self.old.processes slot }
-        ensures does { Does (view_of self.old) (view_of self.new) result (kill_row (view_of self.old) slot to sig) }
+        ensures does { Does (view_of self.old) (view_of self.new) decision.new (kill_row (view_of self.old) slot to sig) }
         ensures revokes { RevokesNone self.old self.new }
     {
-        do_kill(&mut self.procs, &mut self.ending, slot, to, sig)
+        *decision = do_kill(&mut self.procs, &mut self.ending, slot, to, sig);
     }
 
     /// sigaction(2).
-    pub(crate) fn sigset(&mut self, slot: u8, sig: Sig, action: Action) -> Decision
+    pub(crate) fn sigset(&mut self, slot: u8, sig: Sig, action: Action, decision: &mut Decision)
         requires caller { IsCaller self.old.processes slot }
-        ensures does { Does (view_of self.old) (view_of self.new) result (sigset_row (view_of self.old) slot sig action) }
+        ensures does { Does (view_of self.old) (view_of self.new) decision.new (sigset_row (view_of self.old) slot sig action) }
         ensures revokes { RevokesNone self.old self.new }
     {
-        do_sigset(&mut self.procs, slot, sig, action)
+        *decision = do_sigset(&mut self.procs, slot, sig, action);
     }
 
     /// sigwait(2) without a wait.
-    pub(crate) fn sigtake(&mut self, slot: u8) -> Decision
+    pub(crate) fn sigtake(&mut self, slot: u8, decision: &mut Decision)
         requires caller { IsCaller self.old.processes slot }
-        ensures does { Does (view_of self.old) (view_of self.new) result (sigtake_row (view_of self.old) slot) }
+        ensures does { Does (view_of self.old) (view_of self.new) decision.new (sigtake_row (view_of self.old) slot) }
         ensures revokes { RevokesNone self.old self.new }
     {
-        do_sigtake(&mut self.procs, slot)
+        *decision = do_sigtake(&mut self.procs, slot);
     }
 
     /// pause(3).
-    pub(crate) fn pause(&self, slot: u8) -> Decision
+    pub(crate) fn pause(&self, slot: u8, decision: &mut Decision)
         requires { IsCaller self.now.processes slot }
-        ensures { Does (view_of self.now) (view_of self.now) result (pause_row (view_of self.now) slot) }
+        ensures { Does (view_of self.now) (view_of self.now) decision.new (pause_row (view_of self.now) slot) }
     {
-        do_pause(&self.procs, slot)
+        *decision = do_pause(&self.procs, slot);
     }
 
     /// execve(2).
-    pub(crate) fn exec(&mut self, slot: u8, path: &PathText, args: &Piece) -> Decision
+    pub(crate) fn exec(&mut self, slot: u8, path: &PathText, args: &Piece, decision: &mut Decision)
         requires caller { IsCaller self.old.processes slot }
-        ensures does { Does (view_of self.old) (view_of self.new) result (exec_row (view_of self.old) slot path.now args.now) }
+        ensures does { Does (view_of self.old) (view_of self.new) decision.new (exec_row (view_of self.old) slot path.now args.now) }
         ensures revokes { RevokesNone self.old self.new }
     {
-        do_exec(
+        *decision = do_exec(
             &self.tree,
             &mut self.fds,
             &mut self.pipes,
@@ -162,26 +162,25 @@ impl System {
             slot,
             path,
             args,
-        )
+        );
     }
 
     /// ps(1).
-    pub(crate) fn ps(&self, slot: u8) -> Decision
+    pub(crate) fn ps(&self, slot: u8, decision: &mut Decision)
         requires { IsCaller self.now.processes slot }
-        ensures { Does (view_of self.now) (view_of self.now) result (ps_row (view_of self.now) slot) }
+        ensures { Does (view_of self.now) (view_of self.now) decision.new (ps_row (view_of self.now) slot) }
     {
-        do_ps(&self.procs, slot)
+        *decision = do_ps(&self.procs, slot);
     }
 
     /// reboot(2): the system takes no more events.
-    pub(crate) fn halt(&mut self, slot: u8) -> Decision
+    pub(crate) fn halt(&mut self, slot: u8, decision: &mut Decision)
         requires caller { IsCaller self.old.processes slot }
-        ensures does { Does (view_of self.old) (view_of self.new) result (halt_row (view_of self.old) slot) }
+        ensures does { Does (view_of self.old) (view_of self.new) decision.new (halt_row (view_of self.old) slot) }
         ensures revokes { RevokesNone self.old self.new }
     {
-        let decision = do_halt(&self.procs, slot);
-        self.halted = halted_after(self.halted, &decision);
-        decision
+        *decision = do_halt(&self.procs, slot);
+        self.halted = halted_after(self.halted, decision);
     }
 }
 

@@ -28,14 +28,14 @@ impl System {
         ensures memory { OnErr result (may_want_memory (view_of self.old) event.now ≡ true) }
         ensures free { OnErr result (first (event_row (view_of self.old) event.now).checks ≡ None) }
     {
-        *decision = match event {
+        match event {
             Event::Call { slot, call } => return self.ask(*slot, call, decision),
             Event::Again { slot } => return self.try_again(*slot, decision),
-            Event::Byte { line, byte } => self.byte(*line, *byte),
-            Event::Carrier { line, up } => self.carrier(*line, *up),
-            Event::Take { line, max } => self.take(*line, *max),
-            Event::Ended { line } => self.end(*line),
-        };
+            Event::Byte { line, byte } => self.byte(*line, *byte, decision),
+            Event::Carrier { line, up } => self.carrier(*line, *up, decision),
+            Event::Take { line, max } => self.take(*line, *max, decision),
+            Event::Ended { line } => self.end(*line, decision),
+        }
         Ok(())
     }
 

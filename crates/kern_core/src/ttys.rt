@@ -15,29 +15,36 @@ use tty_calls::{
 
 impl System {
     /// tcsetsid(3).
-    pub(crate) fn setctty(&mut self, slot: u8, fd: u8) -> Decision
+    pub(crate) fn setctty(&mut self, slot: u8, fd: u8, decision: &mut Decision)
         requires caller { IsCaller self.old.processes slot }
-        ensures does { Does (view_of self.old) (view_of self.new) result (setctty_row (view_of self.old) slot fd) }
+        ensures does { Does (view_of self.old) (view_of self.new) decision.new (setctty_row (view_of self.old) slot fd) }
         ensures revokes { RevokesOnce self.old self.new }
     {
-        do_setctty(&self.fds, &self.procs, &mut self.lines, slot, fd)
+        *decision = do_setctty(&self.fds, &self.procs, &mut self.lines, slot, fd);
     }
 
     /// tcgetattr(3).
-    pub(crate) fn tcgetattr(&self, slot: u8, fd: u8) -> Decision
+    pub(crate) fn tcgetattr(&self, slot: u8, fd: u8, decision: &mut Decision)
         requires { IsCaller self.now.processes slot }
-        ensures { Does (view_of self.now) (view_of self.now) result (tcgetattr_row (view_of self.now) slot fd) }
+        ensures { Does (view_of self.now) (view_of self.now) decision.new (tcgetattr_row (view_of self.now) slot fd) }
     {
-        do_tcgetattr(&self.fds, &self.lines, slot, fd)
+        *decision = do_tcgetattr(&self.fds, &self.lines, slot, fd);
     }
 
     /// tcsetattr(3).
-    pub(crate) fn tcsetattr(&mut self, slot: u8, fd: u8, when: When, termios: &Termios) -> Decision
+    pub(crate) fn tcsetattr(
+        &mut self,
+        slot: u8,
+        fd: u8,
+        when: When,
+        termios: &Termios,
+        decision: &mut Decision,
+    )
         requires caller { IsCaller self.old.processes slot }
-        ensures does { Does (view_of self.old) (view_of self.new) result (tcsetattr_row (view_of self.old) slot fd when termios.now) }
+        ensures does { Does (view_of self.old) (view_of self.new) decision.new (tcsetattr_row (view_of self.old) slot fd when termios.now) }
         ensures revokes { RevokesNone self.old self.new }
     {
-        do_tcsetattr(
+        *decision = do_tcsetattr(
             &self.fds,
             &mut self.procs,
             &mut self.pool,
@@ -47,16 +54,16 @@ impl System {
             fd,
             when,
             termios,
-        )
+        );
     }
 
     /// tcflush(3).
-    pub(crate) fn tcflush(&mut self, slot: u8, fd: u8, which: WhichQueue) -> Decision
+    pub(crate) fn tcflush(&mut self, slot: u8, fd: u8, which: WhichQueue, decision: &mut Decision)
         requires caller { IsCaller self.old.processes slot }
-        ensures does { Does (view_of self.old) (view_of self.new) result (tcflush_row (view_of self.old) slot fd which) }
+        ensures does { Does (view_of self.old) (view_of self.new) decision.new (tcflush_row (view_of self.old) slot fd which) }
         ensures revokes { RevokesNone self.old self.new }
     {
-        do_tcflush(
+        *decision = do_tcflush(
             &self.fds,
             &mut self.procs,
             &mut self.lines,
@@ -64,32 +71,32 @@ impl System {
             slot,
             fd,
             which,
-        )
+        );
     }
 
     /// tcdrain(3).
-    pub(crate) fn tcdrain(&mut self, slot: u8, fd: u8) -> Decision
+    pub(crate) fn tcdrain(&mut self, slot: u8, fd: u8, decision: &mut Decision)
         requires caller { IsCaller self.old.processes slot }
-        ensures does { Does (view_of self.old) (view_of self.new) result (tcdrain_row (view_of self.old) slot fd) }
+        ensures does { Does (view_of self.old) (view_of self.new) decision.new (tcdrain_row (view_of self.old) slot fd) }
         ensures revokes { RevokesNone self.old self.new }
     {
-        do_tcdrain(
+        *decision = do_tcdrain(
             &self.fds,
             &mut self.procs,
             &self.lines,
             &mut self.ending,
             slot,
             fd,
-        )
+        );
     }
 
     /// tcsetpgrp(3).
-    pub(crate) fn tcsetpgrp(&mut self, slot: u8, fd: u8, group: u32) -> Decision
+    pub(crate) fn tcsetpgrp(&mut self, slot: u8, fd: u8, group: u32, decision: &mut Decision)
         requires caller { IsCaller self.old.processes slot }
-        ensures does { Does (view_of self.old) (view_of self.new) result (tcsetpgrp_row (view_of self.old) slot fd group) }
+        ensures does { Does (view_of self.old) (view_of self.new) decision.new (tcsetpgrp_row (view_of self.old) slot fd group) }
         ensures revokes { RevokesNone self.old self.new }
     {
-        do_tcsetpgrp(
+        *decision = do_tcsetpgrp(
             &self.fds,
             &mut self.procs,
             &mut self.lines,
@@ -97,22 +104,22 @@ impl System {
             slot,
             fd,
             group,
-        )
+        );
     }
 
     /// tcgetpgrp(3).
-    pub(crate) fn tcgetpgrp(&self, slot: u8, fd: u8) -> Decision
+    pub(crate) fn tcgetpgrp(&self, slot: u8, fd: u8, decision: &mut Decision)
         requires { IsCaller self.now.processes slot }
-        ensures { Does (view_of self.now) (view_of self.now) result (tcgetpgrp_row (view_of self.now) slot fd) }
+        ensures { Does (view_of self.now) (view_of self.now) decision.new (tcgetpgrp_row (view_of self.now) slot fd) }
     {
-        do_tcgetpgrp(&self.fds, &self.procs, &self.lines, slot, fd)
+        *decision = do_tcgetpgrp(&self.fds, &self.procs, &self.lines, slot, fd);
     }
 
     /// fdevname(3).
-    pub(crate) fn fdname(&self, slot: u8, fd: u8) -> Decision
+    pub(crate) fn fdname(&self, slot: u8, fd: u8, decision: &mut Decision)
         requires { IsCaller self.now.processes slot }
-        ensures { Does (view_of self.now) (view_of self.now) result (fdname_row (view_of self.now) slot fd) }
+        ensures { Does (view_of self.now) (view_of self.now) decision.new (fdname_row (view_of self.now) slot fd) }
     {
-        do_fdname(&self.fds, &self.lines, slot, fd)
+        *decision = do_fdname(&self.fds, &self.lines, slot, fd);
     }
 }

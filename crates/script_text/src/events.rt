@@ -35,6 +35,13 @@ impl Model for Events {
     ghost invariant = { λ e. (0 < length (events_in e.form)) × (length (events_in e.form) ≤ PIECE_BYTES) };
 }
 
+/// What an event line says: one event, which stands beside it, or the 1 to 512 bytes that arrive at a line.
+#[derive(Drop)]
+pub enum LineKind {
+    Event,
+    Input { line: u8, bytes: Piece },
+}
+
 impl Events {
     /// One event.
     pub(crate) fn one(event: Event) -> Self

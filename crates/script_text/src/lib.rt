@@ -29,8 +29,8 @@ mod words;
 
 pub use event_lines::{EventLine, print_event};
 pub use event_load::Load;
-pub use events::Events;
+pub use events::{Events, LineKind};
 pub use laws::{events_are_read_back, one_grammar, paths_are_read_as_spelled, words_are_read_back};
 pub use numbers::{DECIMAL, read_number, read_u64};
 pub use print::{ANSWER_BYTES, AnswerLine, print_answer};
-pub use read::read_event_line;
+pub use read::{read_event_line, read_event_line_into};

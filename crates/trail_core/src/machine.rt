@@ -73,6 +73,35 @@ pub trait Machine: Drop {
         ensures memory { needs_no_memory event.now → IsOk result }
         ensures nothing { OnErr result ((self.new ≡ self.old) × (wakes.new ≡ wakes.old)) };
 
+    /// Takes the next event as `step` does, and writes its decision to `into`, which is for decisions that are large in place.
+    ///
+    /// Its conditions and its error are those of `step`. Where memory runs out, what stands in `into` is not told.
+    fn step_into(
+        &mut self,
+        pos: u32,
+        event: &Self::Event,
+        into: &mut Self::Decision,
+        wakes: &mut Self::Wakes,
+    ) -> Result<(), NoMemory>
+        requires event { may_ask event.now }
+        requires position { IsNextPosition (stands self.old) pos }
+        requires most { pos ≤ MOST_EVENTS }
+
+        // Of each list for which the machine stands and of which this is the next position:
+        ensures decision { (events : List Self.Event) → stands self.old events → pos ≡ length events + 1 →
+            OnOk result (into.new ≡ decision (root self.old) events event.now) }
+        ensures wakeups { (events : List Self.Event) → stands self.old events → pos ≡ length events + 1 →
+            OnOk result (wakes.new ≡ wakeups (root self.old) events event.now) }
+        ensures stands { (events : List Self.Event) → stands self.old events → pos ≡ length events + 1 →
+            OnOk result (stands self.new (events ++ event.now ∷ [])) }
+
+        ensures wants { (events : List Self.Event) → stands self.old events → pos ≡ length events + 1 →
+            OnErr result (may_run_out (root self.old) events event.now) }
+
+        ensures root { root self.new ≡ root self.old }
+        ensures memory { needs_no_memory event.now → IsOk result }
+        ensures nothing { OnErr result ((self.new ≡ self.old) × (wakes.new ≡ wakes.old)) };
+
     /// The empty wakeup list, for `step` to write to.
     fn no_wakes() -> Self::Wakes
         ensures { result ≡ no_wakeups };

@@ -1,5 +1,5 @@
 //! A machine and the trail of its events.
-ghost use Rattle.std.specs.Prelude.{◌≡◌, ◌≤◌, ◌↔◌, [], ◌∷◌, ◌++◌, length, IsTrue, IfOk, IfErr, OnOk, OnErr, Err};
+ghost use Rattle.std.specs.Prelude.{◌≡◌, ◌+◌, ◌≤◌, ◌↔◌, [], ◌∷◌, ◌++◌, length, IsTrue, IfOk, IfErr, OnOk, OnErr, Err};
 
 use crate::machine::{MOST_EVENTS, Machine, NoMemory};
 use std::alloc::Global;
@@ -93,6 +93,14 @@ impl<M: Machine> Recorded<M> {
         self.machine.still_waits(event)
     }
 
+    /// The position of the next event, counted from 1.
+    fn next_position(&self) -> u32
+        ensures { result ≡ length self.now.events + 1 }
+    {
+        let _ = &self.events;
+        self.len() + 1
+    }
+
     /// Takes the event, which may be asked, and records it: answers its decision, and writes its
     /// wakeup list to `wakes`.
     ///
@@ -118,7 +126,7 @@ impl<M: Machine> Recorded<M> {
         if self.is_full() {
             return Err(Refused::Full(event));
         }
-        let pos = self.len() + 1;
+        let pos = self.next_position();
         match self.machine.step(pos, &event, wakes) {
             Ok(decision) => {
                 self.events.push_reserved(event);
@@ -126,5 +134,36 @@ impl<M: Machine> Recorded<M> {
             }
             Err(NoMemory) => Err(Refused::NoMemory(event)),
         }
+    }
+
+    /// Takes the event and records it as `apply` does, and writes its decision to `into`, which is for decisions that are large in place.
+    ///
+    /// Its refusals are those of `apply`. Where there is one, what stands in `into` is not told.
+    pub fn apply_into(
+        &mut self,
+        event: M::Event,
+        into: &mut M::Decision,
+        wakes: &mut M::Wakes,
+    ) -> Result<(), Refused<M::Event>>
+        requires { M.may_ask event }
+        ensures decision { OnOk result (into.new ≡ M.decision self.old.root self.old.events event) }
+        ensures wakeups { OnOk result (wakes.new ≡ M.wakeups self.old.root self.old.events event) }
+        ensures trail { OnOk result (self.new ≡ record self.old { events = self.old.events ++ event ∷ [] }) }
+
+        ensures full { (result ≡ Err (Refused.Full event)) ↔ (length self.old.events ≡ self.old.most) }
+        ensures memory { M.needs_no_memory event → IfErr result (λ refused. refused ≡ Refused.Full event) }
+        ensures wants { result ≡ Err (Refused.NoMemory event) → M.may_run_out self.old.root self.old.events event }
+        ensures event { IfErr result (λ refused. event_of refused ≡ event) }
+        ensures nothing { OnErr result ((self.new ≡ self.old) × (wakes.new ≡ wakes.old)) }
+    {
+        if self.is_full() {
+            return Err(Refused::Full(event));
+        }
+        let pos = self.next_position();
+        if let Err(NoMemory) = self.machine.step_into(pos, &event, into, wakes) {
+            return Err(Refused::NoMemory(event));
+        }
+        self.events.push_reserved(event);
+        Ok(())
     }
 }

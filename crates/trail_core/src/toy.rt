@@ -91,6 +91,17 @@ impl Machine for Tally {
         Ok(TallyDecision::Sum(self.sum))
     }
 
+    fn step_into(
+        &mut self,
+        pos: u32,
+        event: &TallyEvent,
+        into: &mut TallyDecision,
+        wakes: &mut (),
+    ) -> Result<(), NoMemory> {
+        *into = self.step(pos, event, wakes)?;
+        Ok(())
+    }
+
     fn no_wakes() {}
 
     fn still_waits(&self, event: &TallyEvent) -> bool {

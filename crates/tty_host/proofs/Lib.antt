@@ -6,3 +6,4 @@ pub mod TopLemmas
 pub mod BootTextLemmas
 mod TrailEvents
 mod LoadLemmas
+mod CutLemmas

@@ -1,8 +1,11 @@
 -- One event of a run.
 use Rattle.std.proofs.Common.{◌≡◌, ℕ, zero, suc, ◌+◌, ◌-◌, ◌<◌, true, List, [], ◌∷◌, ◌++◌, Option, Some, Result, length, drop, get_or, drop-cons, add-one, refl, sym, ap, subst, ◌∙◌, arith}
 use Rattle.std.specs.Prelude.{slice_get}
-use Rattle.std.proofs.lemmas.Option.{slice_get_within, get_or_from_slice_get}
+use Rattle.std.specs.Prelude.{option_map}
+use Rattle.std.proofs.lemmas.Option.{slice_get_within, get_or_from_slice_get, slice_get-map, slice_get-get_or}
 use Rattle.call_words.specs.declared.event.Event.{Event}
+use Rattle.call_words.specs.declared.event.Event.TheVariants as event
+use Rattle.script_text.specs.Reading.{arrivals}
 use Rattle.call_words.specs.declared.event.Decision.{Decision}
 use Rattle.call_words.specs.Events.{WakeList}
 use Rattle.system_model.specs.State.{View}
@@ -65,6 +68,10 @@ keeps-next a b c x z come events es i e h before call = keeps-more a b c x _ z (
 pub goes-next : (r : Result (Unit {0}) Stop) (a b c : Option (List ℕ)) (x z : Output) (come : List Event → Output) (events es : List Event) (i : ℕ) (e : Event)
     → slice_get events i ≡ Some e → Keeps a x b (come (drop i events ++ es)) → Goes r b (come (e ∷ (drop (i + 1) events ++ es))) c z → Goes r a x c z
 goes-next r a b c x z come events es i e h before call = goes-more r a b c x _ z (rw (events-cons events es i e h) at before) call
+
+-- the event at a place of the arrivals of bytes is that of the byte there
+pub arrival-at : (line : ℕ) (bytes : List ℕ) (i : ℕ) → i < length bytes → slice_get (arrivals line bytes) i ≡ Some (event.Byte line (get_or bytes i 0))
+arrival-at line bytes i h = slice_get-map (λ b. event.Byte line b) bytes i ∙ ap (option_map (λ b. event.Byte line b)) (slice_get-get_or bytes i 0 h)
 
 -- the text from i on is the byte at i and what follows it
 pub text-cons : (bytes text : List ℕ) (i : ℕ) → i < length bytes → drop i bytes ++ text ≡ get_or bytes i 0 ∷ (drop (i + 1) bytes ++ text)

@@ -27,6 +27,10 @@ come run events bad = behind run.output.items (out_seen (seen_so_far run) (event
 abbrev pub lines_come : Run → List (List ℕ) → Output
 lines_come run ls = behind run.output.items (out_seen (seen_so_far run) (events_left run) (reads_from run.number ls))
 
+-- the same where they come behind the line of that number
+abbrev pub lines_behind : Run → List (List ℕ) → Output
+lines_behind run ls = behind run.output.items (out_seen (seen_so_far run) (events_left run) (reads_from (run.number + 1) ls))
+
 -- where this text follows the bytes of the line so far
 abbrev pub to_come : Run → List ℕ → Output
 to_come run text = lines_come run (lines (run.line.items ++ text))

@@ -1,12 +1,13 @@
 //! A run of a script: from the bytes of its text to the bytes of its answers.
-ghost use Rattle.std.specs.Prelude.{◌≡◌, ℕ, ◌+◌, ◌-◌, ◌*◌, ◌<◌, ◌≤◌, List, [], ◌∷◌, ◌++◌, length, take, drop, Option, Some, None, Ok, Err, All, IfOk, OnOk, OnErr, IsTrue};
+ghost use Rattle.std.specs.Prelude.{◌≡◌, ℕ, ◌+◌, ◌-◌, ◌*◌, ◌<◌, ◌≤◌, List, [], ◌∷◌, ◌++◌, length, take, drop, Option, Some, None, Ok, Err, IfOk, OnOk, OnErr, IsTrue};
 ghost use Rattle.arrayvec.specs.ArrayVec.{array_vec_len};
 ghost use Rattle.edge_io.specs.Outside.{Rose, Appended};
 ghost use Rattle.call_words.specs.declared.event.Event.{Event};
 ghost use Rattle.user_db.specs.Boot.{IsBoot};
 ghost use Rattle.call_words.specs.Events.{MayBeUsed};
 ghost use Rattle.script_model.specs.Script.{Output, text_end, full_end};
-ghost use Rattle.sys_types.specs.declared.limits.TheConstants.{TRAIL_EVENTS};
+ghost use Rattle.script_text.specs.Reading.{arrivals};
+ghost use Rattle.sys_types.specs.declared.limits.TheConstants.{LINES, TRAIL_EVENTS};
 ghost use Rattle.tty_host.specs.Outputs.{Began, Among, behind, Goes};
 ghost use Rattle.system_model.specs.State.{View};
 ghost use Rattle.script_model.specs.Seen.{with_line};
@@ -14,13 +15,14 @@ ghost use Rattle.tty_host.specs.Ends.{IsScriptStatus, stop_status};
 ghost use Rattle.tty_host.specs.OneLine.{is_one_line};
 ghost use Rattle.tty_host.specs.declared.run.TheConstants.{OUTPUT_BYTES};
 
+use crate::lines::cut_line;
 use crate::print::bad_line;
 use crate::status::Status;
 use arrayvec::ArrayVec;
-use call_words::{Event, SCRIPT_LINE_BYTES, Wakes, push_bytes};
+use call_words::{Decision, Event, SCRIPT_LINE_BYTES, Wakes, push_bytes};
 use edge_io::{Failed, Sink, Source};
 use kern_core::{Kernel, NoMemory, boot_trail};
-use script_text::{AnswerLine, Events, print_answer, read_event_line};
+use script_text::{AnswerLine, LineKind, print_answer, read_event_line_into};
 use std::alloc::Global;
 use trail_core::{Recorded, Refused};
 use user_db::Boot;
@@ -55,12 +57,13 @@ const READ_BYTES: usize = 16_384;
 const OUTPUT_BYTES: usize = 65_536;
 
 /// A run: the kernel with the trail of its events, the number of the line that is being read, what
-/// has come of it, the room in which an answer is printed, and the answers that are not written yet.
+/// has come of it, the rooms in which an event is decided and its answer printed, and the answers that are not written yet.
 #[derive(Drop)]
 pub struct Run {
     pub trail: Recorded<Kernel>,
     pub number: u32,
     pub line: ArrayVec<u8, SCRIPT_LINE_BYTES>,
+    pub decision: Decision,
     pub answer: AnswerLine,
     pub output: ArrayVec<u8, OUTPUT_BYTES>,
     ghost most: { trail.most ≡ TRAIL_EVENTS },
@@ -86,7 +89,7 @@ pub fn write_all<K: Sink>(out: &mut K, bytes: &[u8]) -> Result<(), Failed>
 }
 
 impl Run {
-    ghost use Rattle.tty_host.specs.Come.{come, lines_come, to_come, events_left, budget};
+    ghost use Rattle.tty_host.specs.Come.{come, lines_come, lines_behind, to_come, events_left, budget};
     ghost use Rattle.tty_host.specs.Outputs.{status_alone};
     ghost use Rattle.tty_host.specs.Ends.{Writes};
 
@@ -104,6 +107,7 @@ impl Run {
             trail,
             number: 1,
             line: ArrayVec::new(),
+            decision: Decision::Noted,
             answer: AnswerLine::new(),
             output: ArrayVec::new(),
         })
@@ -216,37 +220,59 @@ impl Run {
         ensures grows { K.faults out.old ≤ K.faults out.new }
     {
         let mut wakes = Wakes::none();
-        let decision = match self.trail.apply(event, &mut wakes) {
-            Ok(decision) => decision,
+        match self.trail.apply_into(event, &mut self.decision, &mut wakes) {
+            Ok(()) => {}
             Err(Refused::Full(_)) => return Err(self.stop_full(out)),
             Err(Refused::NoMemory(_)) => return Err(self.stop_memory(out)),
-        };
+        }
         self.answer.clear();
         let events = self.trail.events();
         print_answer(
             &events[events.len() - 1],
-            &decision,
+            &self.decision,
             &wakes,
             &mut self.answer,
         );
         self.gather(out)
     }
 
-    /// Runs the events of a line.
-    fn run_events<K: Sink>(&mut self, events: &Events, out: &mut K) -> Result<(), Stop>
-        requires { All MayBeUsed events.now }
+    /// Runs the arrival of each of the bytes at a line, of which there is at least one.
+    fn run_input<K: Sink>(&mut self, line: u8, bytes: &[u8], out: &mut K) -> Result<(), Stop>
+        requires line { line < LINES }
+        requires some { 0 < length bytes.now }
         ensures goes { (es : List Event) (bad : Option ℕ) → Goes result
-            (K.written out.old) (come self.old (events.now ++ es) bad)
+            (K.written out.old) (come self.old (arrivals line bytes.now ++ es) bad)
             (K.written out.new) (come self.new es bad) }
         ensures room { OnOk result (events_left self.new < events_left self.old) }
         ensures number { self.new.number ≡ self.old.number }
         ensures failed { result ≡ Err Stop.Failed → Rose (K.faults out.old) (K.faults out.new) }
         ensures grows { K.faults out.old ≤ K.faults out.new }
     {
-        for i in 0..events.len() {
-            self.run_event(events.get(i), out)?;
+        for byte in bytes {
+            self.run_event(Event::Byte { line, byte: *byte }, out)?;
         }
         Ok(())
+    }
+
+    /// Runs what the line that has come to its end says.
+    fn run_line<K: Sink>(&mut self, out: &mut K) -> Result<(), Stop>
+        ensures goes { (ls : List (List ℕ)) → Goes result
+            (K.written out.old) (lines_come self.old (self.old.line.items ∷ ls))
+            (K.written out.new) (lines_behind self.new ls) }
+        ensures number { self.new.number ≡ self.old.number }
+        ensures room { OnOk result (events_left self.new < events_left self.old) }
+        ensures failed { result ≡ Err Stop.Failed → Rose (K.faults out.old) (K.faults out.new) }
+        ensures grows { K.faults out.old ≤ K.faults out.new }
+    {
+        let mut event = Event::Again { slot: 0 };
+        match read_event_line_into(self.line.as_slice(), &mut event) {
+            None => Err(self.stop_at_line(out)),
+            Some(LineKind::Event) => self.run_event(event, out),
+            Some(LineKind::Input { line, bytes }) => {
+                let input = bytes.as_slice();
+                self.run_input(line, input, out)
+            }
+        }
     }
 
     /// Ends the run at a bad line.
@@ -272,10 +298,7 @@ impl Run {
         ensures failed { result ≡ Err Stop.Failed → Rose (K.faults out.old) (K.faults out.new) }
         ensures grows { K.faults out.old ≤ K.faults out.new }
     {
-        let Some(events) = read_event_line(self.line.as_slice()) else {
-            return Err(self.stop_at_line(out));
-        };
-        self.run_events(&events, out)?;
+        self.run_line(out)?;
         self.line.clear();
         self.number += 1;
         Ok(())
@@ -300,8 +323,8 @@ impl Run {
         Ok(())
     }
 
-    /// Takes the next bytes of the text, and writes all answers to them.
-    fn feed_all<K: Sink>(&mut self, bytes: &[u8], out: &mut K) -> Result<(), Stop>
+    /// Takes bytes that begin a line, or go on with one.
+    fn feed_bytes<K: Sink>(&mut self, bytes: &[u8], out: &mut K) -> Result<(), Stop>
         ensures goes { (text : List ℕ) → Goes result
             (K.written out.old) (to_come self.old (bytes.now ++ text))
             (K.written out.new) (to_come self.new text) }
@@ -312,6 +335,41 @@ impl Run {
         for byte in bytes {
             self.feed(*byte, out)?;
         }
+        Ok(())
+    }
+
+    /// Takes the bytes of a line up to its newline, and that.
+    fn feed_line<K: Sink>(&mut self, line: &[u8], out: &mut K) -> Result<(), Stop>
+        requires { IsTrue (is_one_line line.now) }
+        ensures goes { (text : List ℕ) → Goes result
+            (K.written out.old) (to_come self.old (line.now ++ 10 ∷ text))
+            (K.written out.new) (to_come self.new text) }
+        ensures nearer { OnOk result (budget self.new + length line.now + 1 ≤ budget self.old) }
+        ensures failed { result ≡ Err Stop.Failed → Rose (K.faults out.old) (K.faults out.new) }
+        ensures grows { K.faults out.old ≤ K.faults out.new }
+    {
+        if self.line.remaining_capacity() < line.len() {
+            return Err(self.stop_at_line(out));
+        }
+        push_bytes(&mut self.line, line);
+        self.feed(b'\n', out)
+    }
+
+    /// Takes the next bytes of the text, and writes all answers to them.
+    fn feed_all<K: Sink>(&mut self, bytes: &[u8], out: &mut K) -> Result<(), Stop>
+        ensures goes { (text : List ℕ) → Goes result
+            (K.written out.old) (to_come self.old (bytes.now ++ text))
+            (K.written out.new) (to_come self.new text) }
+        ensures nearer { OnOk result (budget self.new + length bytes.now ≤ budget self.old) }
+        ensures failed { result ≡ Err Stop.Failed → Rose (K.faults out.old) (K.faults out.new) }
+        ensures grows { K.faults out.old ≤ K.faults out.new }
+    {
+        let mut rest = bytes;
+        while let Some((line, more)) = cut_line(rest) {
+            self.feed_line(line, out)?;
+            rest = more;
+        }
+        self.feed_bytes(rest, out)?;
         self.flush(out)
     }
 

@@ -1,14 +1,16 @@
 -- What each change of the tree leaves, as contracts say it.
-use Rattle.std.proofs.Common.{◌≡◌, ◌≢◌, inl, inr, ℕ, suc, ◌+◌, ◌<◌, ◌≤◌, true, false, cond, List, [], ◌∷◌, ◌++◌, length, take, drop, set, get_or, Option, Some, None, option_map, refl, sym, ap, ◌∙◌, arith, subst}
+use Rattle.std.proofs.Common.{◌≡◌, ◌≢◌, inl, inr, ℕ, suc, ◌+◌, ◌<◌, ◌≤◌, true, false, cond, List, [], ◌∷◌, ◌++◌, length, set, get_or, Option, Some}
+use Rattle.std.proofs.Common.{None, option_map, refl, sym, ap, ◌∙◌, arith, subst}
 use Rattle.std.specs.Prelude.{IsSome, IsTrue, is_some, is_none, position, count_by, sum_by}
-use Rattle.std.proofs.lemmas.List.{get_or-set_same, get_or-set_other, length-set}
+use Rattle.std.proofs.lemmas.List.{get_or-set_same, get_or-set_other}
 use Rattle.std.proofs.lemmas.List.Quantifiers.{position-Some}
 use Rattle.std.proofs.lemmas.List.Sums.{sum_by-set, sum_by-cons}
 use Rattle.acl_core.specs.declared.entry.Entry.{Entry as ListEntry}
 use Rattle.access_rule.specs.declared.Attrs.{Attrs}
 use Rattle.tree_model.specs.Tree.{NodeRecord, is_dir, is_dir_record}
 use Rattle.vnode_tree.specs.declared.entry.Entry.{Entry}
-use Rattle.vnode_tree.specs.Nodes.{NodeAt, IsLive, node_at, path_in, path_of, record_of, tree_of, with_node, with_record, with_attrs, with_default, new_node, with_change, is_name, count_of, ChangesAt, IsRemovable}
+use Rattle.vnode_tree.specs.Nodes.{NodeAt, IsLive, node_at, path_in, path_of, record_of, tree_of, with_node, with_record, with_attrs, with_default, new_node}
+use Rattle.vnode_tree.specs.Nodes.{with_change, is_name, count_of, ChangesAt, IsRemovable}
 use Rattle.vnode_tree.specs.Links.{entry_at, path_up, record_in, nodes_of, with_entry, entry_with_attrs, entry_with_default}
 use Rattle.vnode_tree.specs.Kept.{IsKept, IsDirAt, IsProper, size_in}
 use Rattle.sys_types.specs.declared.limits.TheConstants.{NAME_BYTES}
@@ -18,7 +20,6 @@ use Rattle.vnode_tree.proofs.Paths.{path_is as step_of, root_path, same_node_pat
 use Rattle.vnode_tree.proofs.Counts.{live_within, count_with_free}
 use Rattle.vnode_tree.proofs.Trees.{Owns, changes_at, at_its_path}
 use Rattle.vnode_tree.proofs.Tables.{length-nodes, has_path, listed, paths_apart}
-use Rattle.vnode_tree.proofs.Vectors.{all_written}
 use Rattle.vnode_tree.proofs.Positions.{all_fail}
 use Rattle.vnode_tree.proofs.Changes.{IsLike, changed_entry, made_entry, removed_entry}
 use Rattle.vnode_tree.proofs.Looks.{live_entry, record_is}
@@ -302,28 +303,14 @@ pub live_inside : (entries : List (Option Entry)) (nodes : List (Option NodeAt))
 live_inside entries nodes n view live =
     let there = some_entry (entry_at entries n) (live_entry entries nodes n view live) in live_within entries n there.0 there.1
 
--- the table after one of its entries was written in place
-pub entry_written : (f : Entry → Entry) (size : ℕ) (entries there new : List (Option Entry)) (n : ℕ) → size ≡ length entries → there ≡ entries
-    → new ≡ with_entry f there n → take size (new ++ drop (length new) entries) ≡ with_entry f entries n
-entry_written f size entries there new n whole same is =
-    let new_is : new ≡ with_entry f entries n = is ∙ ap (λ (es : List (Option Entry)). with_entry f es n) same in
-    all_written size new entries whole (ap (λ (es : List (Option Entry)). length es) new_is ∙ length-set entries n (option_map f (entry_at entries n))) ∙ new_is
-
 -- a node is made in the first free place
-pub made_call : (entries there : List (Option Entry)) (nodes : List (Option NodeAt)) (n : ℕ) (entry : Entry) (dir : ℕ) (name : List ℕ)
-    → nodes_of entries ≡ nodes → IsKept entries → there ≡ entries → Some n ≡ position is_none there → entry.dir ≡ dir → entry.name ≡ name
+pub made_call : (entries : List (Option Entry)) (nodes : List (Option NodeAt)) (n : ℕ) (entry : Entry) (dir : ℕ) (name : List ℕ)
+    → nodes_of entries ≡ nodes → IsKept entries → Some n ≡ position is_none entries → entry.dir ≡ dir → entry.name ≡ name
     → length entry.name ≤ NAME_BYTES → IsTrue (is_dir_record (record_of nodes dir)) → IsTrue (is_name name) → entry.attrs.is_dir ≡ is_dir entry.kind
     → sum_by size_in entries + length entry.contents ≤ 4194304 → tree_of nodes (path_of nodes dir ++ name ∷ []) ≡ None
     → Made nodes n (path_of nodes dir ++ name ∷ []) (new_node entry.kind entry.attrs entry.default entry.contents) (set entries n (Some entry))
-made_call entries there nodes n entry dir name view kept same found dir_is name_is short is_a_dir node dirs empty none =
+made_call entries nodes n entry dir name view kept found dir_is name_is short is_a_dir node dirs empty none =
     let done =
-    made entries nodes n entry view kept (ap (position is_none) (sym same) ∙ sym found) (rw dir_is is_a_dir) ((rw name_is node), short) dirs empty
+    made entries nodes n entry view kept (sym found) (rw dir_is is_a_dir) ((rw name_is node), short) dirs empty
     (rw (dir_is, name_is) none) in
     rw (← dir_is, ← name_is) done
-
--- the table after one of its places was cleared
-pub place_written : (size : ℕ) (entries there new : List (Option Entry)) (n : ℕ) → size ≡ length entries → there ≡ entries → new ≡ set there n None
-    → take size (new ++ drop (length new) entries) ≡ set entries n None
-place_written size entries there new n whole same is =
-    let new_is : new ≡ set entries n None = is ∙ ap (λ (es : List (Option Entry)). set es n None) same in
-    all_written size new entries whole (ap (λ (es : List (Option Entry)). length es) new_is ∙ length-set entries n None) ∙ new_is

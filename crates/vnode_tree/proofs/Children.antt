@@ -1,5 +1,6 @@
 -- Children of a directory, and the directory of a node.
-use Rattle.std.proofs.Common.{◌≡◌, ◌≢◌, inl, inr, ℕ, ◌-◌, ◌<◌, Bool, true, false, List, [], ◌∷◌, ◌++◌, length, Option, Some, None, refl, sym, ap, ◌∙◌, arith, subst, eq-eqb, ne_eqb, eqb-true, length-append}
+use Rattle.std.proofs.Common.{◌≡◌, ◌≢◌, inl, inr, ℕ, ◌-◌, ◌<◌, Bool, true, false, List, [], ◌∷◌, ◌++◌, length, Option, Some, None, refl, sym, ap, ◌∙◌, arith}
+use Rattle.std.proofs.Common.{subst, eq-eqb, ne_eqb, eqb-true, length-append}
 use Rattle.std.specs.Prelude.{IsSome, is_some, position, not, ◌&&◌, ◌==◌}
 use Rattle.std.specs.Str.{bytes_eq}
 use Rattle.std.proofs.lemmas.Slice.Eq.{bytes_eq-Decides}
@@ -46,11 +47,11 @@ at_path entries nodes n entry path view kept at up = subst (λ ns. IsAt ns path 
     })
 
 -- the node of a name in a directory
-pub child_found : (entries there : List (Option Entry)) (nodes : List (Option NodeAt)) (dir : ℕ) (name : List ℕ) (n : ℕ) → nodes_of entries ≡ nodes
-    → IsKept entries → IsLive nodes dir → 0 < length name → there ≡ entries → position (is_child dir name) there ≡ Some n
+pub child_found : (entries : List (Option Entry)) (nodes : List (Option NodeAt)) (dir : ℕ) (name : List ℕ) (n : ℕ) → nodes_of entries ≡ nodes
+    → IsKept entries → IsLive nodes dir → 0 < length name → position (is_child dir name) entries ≡ Some n
     → IsAt nodes (path_of nodes dir ++ name ∷ []) n
-child_found entries there nodes dir name n view kept live node same found =
-    let here = position-Some (is_child dir name) entries n None (ap (position (is_child dir name)) (sym same) ∙ found) in
+child_found entries nodes dir name n view kept live node found =
+    let here = position-Some (is_child dir name) entries n None found in
     let child = child_parts dir name (entry_at entries n) here.1 in
     let above = some_entry (entry_at entries dir) (live_entry entries nodes dir view live) in
     let dir_at = has_path entries dir above.0 kept above.1 in
@@ -112,11 +113,11 @@ none_here entries dir name kept live none =
     ] refl
 
 -- a name that no node has in a directory
-pub child_none : (entries there : List (Option Entry)) (nodes : List (Option NodeAt)) (dir : ℕ) (name : List ℕ) → nodes_of entries ≡ nodes → IsKept entries
-    → IsLive nodes dir → there ≡ entries → position (is_child dir name) there ≡ None → tree_of nodes (path_of nodes dir ++ name ∷ []) ≡ None
-child_none entries there nodes dir name view kept live same none =
+pub child_none : (entries : List (Option Entry)) (nodes : List (Option NodeAt)) (dir : ℕ) (name : List ℕ) → nodes_of entries ≡ nodes → IsKept entries
+    → IsLive nodes dir → position (is_child dir name) entries ≡ None → tree_of nodes (path_of nodes dir ++ name ∷ []) ≡ None
+child_none entries nodes dir name view kept live none =
     subst (λ ns. tree_of ns (path_of ns dir ++ name ∷ []) ≡ None) view
-    (none_here entries dir name kept (subst (λ ns. IsLive ns dir) (sym view) live) (ap (position (is_child dir name)) (sym same) ∙ none))
+    (none_here entries dir name kept (subst (λ ns. IsLive ns dir) (sym view) live) none)
 
 -- a node with a path has an entry
 listed_dir : (k : ℕ) (entries : List (Option Entry)) (n : ℕ) (path : List (List ℕ)) → path_up k entries n ≡ Some path
@@ -165,11 +166,6 @@ root_dir entries nodes n view kept zero_is =
     let at = at_path entries nodes 0 kept.root.0 [] view kept kept.root.1 up in
     rw zero_is (rw at.here at)
 
-pub parent_at : (entries there : List (Option Entry)) (nodes : List (Option NodeAt)) (n : ℕ) (entry : Entry) → nodes_of entries ≡ nodes → IsKept entries
-    → there ≡ entries → entry_at there n ≡ Some entry → n ≢ 0 → IsAt nodes (parent_of (path_of nodes n)) entry.dir
-parent_at entries there nodes n entry view kept same at other =
-    dir_of entries nodes n entry view kept (ap (λ (es : List (Option Entry)). entry_at es n) (sym same) ∙ at) other
-
 -- the root is live, at the empty path
 pub root_at : (entries : List (Option Entry)) (nodes : List (Option NodeAt)) → nodes_of entries ≡ nodes → IsKept entries → IsAt nodes [] 0
 root_at entries nodes view kept =
@@ -187,10 +183,10 @@ in_parts dir (Some entry) e =
     (entry, refl, eqb-true entry.dir dir both.0, not_empty entry.name both.1)
 
 -- a node in a directory has a path there
-pub has_child : (entries there : List (Option Entry)) (nodes : List (Option NodeAt)) (dir n : ℕ) → nodes_of entries ≡ nodes → IsKept entries → IsLive nodes dir
-    → there ≡ entries → position (is_in dir) there ≡ Some n → HasChild nodes (path_of nodes dir)
-has_child entries there nodes dir n view kept live same found =
-    let here = position-Some (is_in dir) entries n None (ap (position (is_in dir)) (sym same) ∙ found) in
+pub has_child : (entries : List (Option Entry)) (nodes : List (Option NodeAt)) (dir n : ℕ) → nodes_of entries ≡ nodes → IsKept entries → IsLive nodes dir
+    → position (is_in dir) entries ≡ Some n → HasChild nodes (path_of nodes dir)
+has_child entries nodes dir n view kept live found =
+    let here = position-Some (is_in dir) entries n None found in
     let child = in_parts dir (entry_at entries n) here.1 in
     let other : n ≢ 0 = λ zero_is.
     let one : kept.root.0 ≡ child.0 = let both : Some kept.root.0 ≡ Some child.0 = sym kept.root.1 ∙ ap (entry_at entries) (sym zero_is) ∙ child.1 in cc in
@@ -254,10 +250,10 @@ child_none_by entries nodes dir name view kept live fails = subst (λ ns. tree_o
     ] refl)
 
 -- a directory without nodes leads no further
-pub no_child : (entries there : List (Option Entry)) (nodes : List (Option NodeAt)) (dir : ℕ) → nodes_of entries ≡ nodes → IsKept entries → IsLive nodes dir
-    → there ≡ entries → position (is_in dir) there ≡ None → IsLeaf nodes (path_of nodes dir)
-no_child entries there nodes dir view kept live same none name =
-    child_none_by entries nodes dir name view kept live (λ k below. all_fail (is_in dir) entries k None (ap (position (is_in dir)) (sym same) ∙ none) below)
+pub no_child : (entries : List (Option Entry)) (nodes : List (Option NodeAt)) (dir : ℕ) → nodes_of entries ≡ nodes → IsKept entries → IsLive nodes dir
+    → position (is_in dir) entries ≡ None → IsLeaf nodes (path_of nodes dir)
+no_child entries nodes dir view kept live none name =
+    child_none_by entries nodes dir name view kept live (λ k below. all_fail (is_in dir) entries k None none below)
 
 -- no other node has the root's path
 pub only_root : (entries : List (Option Entry)) (nodes : List (Option NodeAt)) (n : ℕ) → nodes_of entries ≡ nodes → IsKept entries → IsLive nodes n

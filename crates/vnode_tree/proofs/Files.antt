@@ -1,5 +1,6 @@
 -- What files hold, all together, and a write within the room.
-use Rattle.std.proofs.Common.{◌≡◌, ◌≢◌, ℕ, suc, ◌+◌, ◌-◌, ◌<◌, ◌≤◌, true, List, [], ◌∷◌, ◌++◌, length, drop, replicate, set, get_or, max, Option, Some, None, option_map, refl, sym, ap, ◌∙◌, arith, subst, length-append}
+use Rattle.std.proofs.Common.{◌≡◌, ◌≢◌, ℕ, suc, ◌+◌, ◌-◌, ◌<◌, ◌≤◌, true, List, [], ◌∷◌, ◌++◌, length, drop, replicate, set, get_or, max, Option, Some, None}
+use Rattle.std.proofs.Common.{option_map, refl, sym, ap, ◌∙◌, arith, subst, length-append}
 use Rattle.std.specs.Prelude.{IsSome, sum_by}
 use Rattle.std.proofs.lemmas.List.{length-take-le, length-drop, length-replicate}
 use Rattle.std.proofs.lemmas.List.Sums.{sum_by-set, sum_by-cons}
@@ -128,21 +129,19 @@ file_cut entries nodes n view kept file =
     contents_changed (with_contents []) (λ old. []) entries nodes n there.0 view kept there.1 refl (omega (arith, kept.space))
 
 -- what a write decides on: the bytes of all others, and those that there would be
-pub record Weighed (entries there : List (Option Entry)) (nodes : List (Option NodeAt)) (n : ℕ) (at : ℕ) (bytes : List ℕ) (all size after : ℕ) : Type 0 where
+pub record Weighed (entries : List (Option Entry)) (nodes : List (Option NodeAt)) (n : ℕ) (at : ℕ) (bytes : List ℕ) (all size after : ℕ) : Type 0 where
   pub whole : space_of (with_record (with_write at bytes) nodes n) + size ≡ all + after
   pub part : size ≤ all
   pub most : all ≤ 4194304
 
-pub weighed : (entries there there2 : List (Option Entry)) (nodes : List (Option NodeAt)) (n : ℕ) (entry : Entry) (at : ℕ) (bytes : List ℕ) (all size after : ℕ)
-    → nodes_of entries ≡ nodes → IsKept entries → there ≡ entries → there2 ≡ entries → entry_at there n ≡ Some entry → all ≡ sum_by size_in there2
-    → size ≡ length entry.contents → after ≡ length (after_write entry.contents at bytes) → Weighed entries there nodes n at bytes all size after
-weighed entries there there2 nodes n entry at bytes all size after view kept same same2 is all_is size_is after_is =
-    let here : entry_at entries n ≡ Some entry = ap (λ (es : List (Option Entry)). entry_at es n) (sym same) ∙ is in
+pub weighed : (entries : List (Option Entry)) (nodes : List (Option NodeAt)) (n : ℕ) (entry : Entry) (at : ℕ) (bytes : List ℕ) (all size after : ℕ)
+    → nodes_of entries ≡ nodes → IsKept entries → entry_at entries n ≡ Some entry → all ≡ sum_by size_in entries
+    → size ≡ length entry.contents → after ≡ length (after_write entry.contents at bytes) → Weighed entries nodes n at bytes all size after
+weighed entries nodes n entry at bytes all size after view kept here all_is size_is after_is =
     let sums : sum_by size_in (set entries n None) + size_in (get_or entries n None) ≡ sum_by size_in entries + size_in None =
     sum_by-set size_in entries n None None (live_within entries n entry here) in
-    let all_here : all ≡ sum_by size_in entries = all_is ∙ ap (sum_by size_in) same2 in
     record {
-      whole = omega (arith, space_after entries nodes n entry at bytes view kept here, all_here, size_is, after_is);
-      part = omega (arith, sums, ap size_in here, all_here, size_is);
-      most = omega (arith, all_here, kept.space);
+      whole = omega (arith, space_after entries nodes n entry at bytes view kept here, all_is, size_is, after_is);
+      part = omega (arith, sums, ap size_in here, all_is, size_is);
+      most = omega (arith, all_is, kept.space);
     }

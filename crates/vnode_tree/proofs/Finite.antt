@@ -1,5 +1,6 @@
 -- The nodes of a table as a finite map, from paths in their order to what is there.
-use Rattle.std.proofs.Common.{◌≡◌, ◌≢◌, inl, inr, ℕ, suc, ◌+◌, ◌<◌, Bool, true, false, cond, ◌&&◌, not, T, List, [], ◌∷◌, ◌++◌, length, map, set, Option, Some, None, option_map, refl, sym, ap, ◌∙◌, arith, subst}
+use Rattle.std.proofs.Common.{◌≡◌, ◌≢◌, inl, inr, ℕ, suc, ◌+◌, ◌<◌, Bool, true, false, cond, ◌&&◌, not, T, List, [], ◌∷◌, ◌++◌, length, map, set, Option, Some}
+use Rattle.std.proofs.Common.{None, option_map, refl, sym, ap, ◌∙◌, arith, subst}
 use Rattle.std.proofs.Math.Path.{fun_ext}
 use Rattle.std.specs.Prelude.{IsSome, is_some, sum_by, ◌==◌}
 use Rattle.std.specs.Str.{bytes_eq}
@@ -22,7 +23,8 @@ use Rattle.tree_model.specs.Listing.{name_after, names_below, names_under, is_em
 use Rattle.tree_model.specs.Standard.{standard, standard_tree}
 use Rattle.user_db.specs.declared.boot.Boot.{Boot}
 use Rattle.vnode_tree.specs.declared.entry.Entry.{Entry}
-use Rattle.vnode_tree.specs.Nodes.{NodeAt, IsLive, node_at, path_in, path_of, record_of, same_path, tree_of, with_node, with_record, with_change, count_of, ChangesAt, IsLeaf, HasChild}
+use Rattle.vnode_tree.specs.Nodes.{NodeAt, IsLive, node_at, path_in, path_of, record_of, same_path, tree_of, with_node, with_record, with_change, count_of}
+use Rattle.vnode_tree.specs.Nodes.{ChangesAt, IsLeaf, HasChild}
 use Rattle.vnode_tree.specs.Links.{entry_at, record_in, nodes_of}
 use Rattle.vnode_tree.specs.Kept.{IsKept}
 use Rattle.vnode_tree.specs.Contents.{size_of, space_of}

@@ -1,4 +1,5 @@
 pub mod Vectors
+pub mod Indexes
 pub mod Positions
 pub mod Paths
 pub mod Counts

@@ -1,5 +1,6 @@
 -- The walk of a node's own path finds the node.
-use Rattle.std.proofs.Common.{◌≡◌, inl, inr, ℕ, zero, suc, ◌≤◌, Bool, true, false, not, ◌&&◌, List, [], ◌∷◌, ◌++◌, length, Option, Some, None, refl, sym, ap, ◌∙◌, arith, subst, ne_eqb}
+use Rattle.std.proofs.Common.{◌≡◌, inl, inr, ℕ, zero, suc, ◌≤◌, Bool, true, false, not, ◌&&◌, List, [], ◌∷◌, ◌++◌, length, Option, Some, None, refl, sym, ap}
+use Rattle.std.proofs.Common.{◌∙◌, arith, subst, ne_eqb}
 use Rattle.std.specs.Prelude.{All, is_some, filter}
 use Rattle.std.specs.List.{slice_split, list_all}
 use Rattle.std.specs.Str.{byte}

@@ -1,8 +1,9 @@
 -- A tree of a root alone.
-use Rattle.std.proofs.Common.{◌≡◌, ◌≢◌, inl, inr, ℕ, zero, suc, ◌+◌, true, false, cond, List, [], ◌∷◌, ◌++◌, length, set, get_or, Option, Some, None, refl, sym, ap, ◌∙◌, arith, subst}
+use Rattle.std.proofs.Common.{◌≡◌, ◌≢◌, inl, inr, ℕ, zero, suc, ◌+◌, true, false, cond, List, [], ◌∷◌, length, set, get_or, replicate, Option, Some, None}
+use Rattle.std.proofs.Common.{refl, sym, ap, ◌∙◌, arith, subst}
 use Rattle.std.proofs.Math.Path.{fun_ext}
 use Rattle.std.specs.Prelude.{IsSome, is_some, sum_by}
-use Rattle.std.proofs.lemmas.List.{get_or-set_same, get_or-set_other}
+use Rattle.std.proofs.lemmas.List.{get_or-set_same, get_or-set_other, length-set, length-replicate}
 use Rattle.std.proofs.lemmas.List.Sums.{sum_by-cons}
 use Rattle.std.proofs.lemmas.Bool.{cases_eq}
 use Rattle.tree_model.specs.Tree.{is_dir}
@@ -22,16 +23,6 @@ use Rattle.vnode_tree.proofs.Files.{space_is}
 pub record IsRootTable (entries : List (Option Entry)) (root : Entry) : Type 0 where
   pub first : entry_at entries 0 ≡ Some root
   pub others : (n : ℕ) → n ≢ 0 → entry_at entries n ≡ None
-
--- a place more without a node changes nothing
-pub push_none : (entries : List (Option Entry)) (n : ℕ) → entry_at (entries ++ None ∷ []) n ≡ entry_at entries n
-push_none [] zero = refl
-push_none [] (suc n) = refl
-push_none (x ∷ entries) zero = refl
-push_none (x ∷ entries) (suc n) = push_none entries n
-
-pub root_table_more : (entries : List (Option Entry)) (root : Entry) → IsRootTable entries root → IsRootTable (entries ++ None ∷ []) root
-root_table_more entries root t = record { first = push_none entries 0 ∙ t.first; others = λ n other. push_none entries n ∙ t.others n other }
 
 sum_zero : {X : Type 0} (f : Option X → ℕ) (xs : List (Option X)) → ((k : ℕ) → f (get_or xs k None) ≡ 0) → sum_by f xs ≡ 0
 sum_zero f [] all = refl
@@ -146,10 +137,21 @@ root_map entries root size t is =
       space = space_is entries (nodes_of entries) refl kept ∙ sizes_zero entries root t is ∙ sym (ap (λ (xs : List ℕ). 0 + length xs) is.empty);
     }
 
-past_root : (root : Entry) (n : ℕ) → n ≢ 0 → entry_at (Some root ∷ []) n ≡ None
-past_root root zero other = absurd (other refl)
-past_root root (suc n) other = refl
+-- places without a node
+all_free : (size n : ℕ) → entry_at (replicate size None) n ≡ None
+all_free zero n = refl
+all_free (suc size) zero = refl
+all_free (suc size) (suc n) = all_free size n
 
--- a table whose places are those of a root alone
-pub first_alone : (entries : List (Option Entry)) (root : Entry) → ((k : ℕ) → entry_at entries k ≡ entry_at (Some root ∷ []) k) → IsRootTable entries root
-first_alone entries root same = record { first = same 0; others = λ n other. same n ∙ past_root root n other }
+pub free_size : length (replicate {A = Option Entry} 1024 None) ≡ 1024
+free_size = length-replicate {A = Option Entry} 1024 None
+
+-- a table without a node that is given a root
+pub first_put : (root : Entry) → IsRootTable (set (replicate 1024 None) 0 (Some root)) root
+first_put root = record {
+  first = get_or-set_same (replicate 1024 None) 0 (Some root) None (omega (arith, free_size));
+  others = λ n other. get_or-set_other (replicate 1024 None) 0 n (Some root) None other ∙ all_free 1024 n;
+}
+
+pub root_size : (root : Entry) → length (set (replicate 1024 None) 0 (Some root)) ≡ 1024
+root_size root = length-set (replicate 1024 None) 0 (Some root) ∙ free_size

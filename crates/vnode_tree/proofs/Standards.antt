@@ -1,5 +1,6 @@
 -- The standard nodes, one after another.
-use Rattle.std.proofs.Common.{◌≡◌, ℕ, zero, suc, ◌+◌, ◌<◌, ◌≤◌, Bool, true, false, List, [], ◌∷◌, ◌++◌, map, take, get_or, Option, Some, refl, sym, ap, ◌∙◌, arith, leb-true, le-leb, append_assoc}
+use Rattle.std.proofs.Common.{◌≡◌, ℕ, zero, suc, ◌+◌, ◌<◌, ◌≤◌, Bool, true, false, List, [], ◌∷◌, ◌++◌, map, take, get_or, Option, Some, refl, sym, ap, ◌∙◌}
+use Rattle.std.proofs.Common.{arith, leb-true, le-leb, append_assoc}
 use Rattle.std.proofs.lemmas.Bool.{cases_eq}
 use Rattle.std.proofs.Common.{inl, inr}
 use Rattle.std.specs.Prelude.{IsTrue, ◌&&◌, nat_le, codes, flat_map}
@@ -12,7 +13,8 @@ use Rattle.sys_types.specs.declared.image.Image.{Image}
 use Rattle.sys_types.specs.Images.{images, image_name}
 use Rattle.vnode_tree.specs.Nodes.{NodeAt, node_at, tree_of}
 use Rattle.vnode_tree.specs.Contents.{space_of}
-use Rattle.vnode_tree.specs.Standard.{IsMapOf, can_add, standard_dirs, image_node, bin_node, dev_node, etc_node, line_name, line_node, with_images, with_lines, list_nodes, tty_text}
+use Rattle.vnode_tree.specs.Standard.{IsMapOf, can_add, standard_dirs, image_node, bin_node, dev_node, etc_node, line_name, line_node, with_images, with_lines}
+use Rattle.vnode_tree.specs.Standard.{list_nodes, tty_text}
 use Rattle.vnode_tree.proofs.Maps.{all_some, can_join, can_add_is, both_true}
 
 both : (a b : Bool) → a ≡ true → b ≡ true → (a && b) ≡ true

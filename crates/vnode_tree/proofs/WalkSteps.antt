@@ -1,7 +1,8 @@
 -- One step of a walk.
 use Rattle.std.proofs.Common.{◌≡◌, ℕ, ◌<◌, ◌≤◌, true, false, List, [], ◌∷◌, ◌++◌, length, refl, lt-ltb, le-ltb}
 use Rattle.std.specs.Prelude.{is_some, ◌==◌}
-use Rattle.tree_model.specs.Tree.{Tree, walk, walk_from, begin_at, steps, missing, path_long, walk_ending, walk_past, found, name_long, not_dir, absent_end, parent_of, is_parent, is_dir_record}
+use Rattle.tree_model.specs.Tree.{Tree, walk, walk_from, begin_at, steps, missing, path_long, walk_ending, walk_past, found, name_long, not_dir, absent_end}
+use Rattle.tree_model.specs.Tree.{parent_of, is_parent, is_dir_record}
 
 pub walk_done : (tree : Tree) (here : List (List ℕ)) → walk_from tree here [] ≡ walk_ending (found here)
 unfolding walk_from

@@ -1,5 +1,6 @@
 -- The rules of a path, part by part, are those of the directories that its walk passes and of its end.
-use Rattle.std.proofs.Common.{◌≡◌, ℕ, ◌+◌, ◌<◌, true, false, List, [], ◌∷◌, ◌++◌, length, map, drop, get_or, drop-cons, add-one, Option, Some, None, Ok, Err, refl, sym, ap, ◌∙◌}
+use Rattle.std.proofs.Common.{◌≡◌, ℕ, ◌+◌, ◌<◌, true, false, List, [], ◌∷◌, ◌++◌, length, map, drop, get_or, drop-cons, add-one, Option, Some, None, Ok, Err}
+use Rattle.std.proofs.Common.{refl, sym, ap, ◌∙◌}
 use Rattle.std.specs.Prelude.{is_some, nat_lt, ◌==◌, Result, IfOk, MatchResult}
 use Rattle.sys_types.specs.declared.rules.Rule.{Rule}
 use Rattle.access_rule.specs.Access.{first}
@@ -81,7 +82,8 @@ dirs_cons : (dirs : List ℕ) (i n : ℕ) → i < length dirs → n ≡ get_or d
 dirs_cons dirs i n within at = rw (drop-cons dirs i n within, ← at, add-one i) refl
 
 -- the first directory that is left denies
-pub closed_here : (tree : Tree) (cred : Cred) (label : Subject) (path : ℕ → List (List ℕ)) (dirs : List ℕ) (i n : ℕ) (ruled : Rule) → i < length dirs → n ≡ get_or dirs i n
+pub closed_here : (tree : Tree) (cred : Cred) (label : Subject) (path : ℕ → List (List ℕ)) (dirs : List ℕ) (i n : ℕ) (ruled : Rule)
+    → i < length dirs → n ≡ get_or dirs i n
     → search_rule cred label (tree (path n)) ≡ Some ruled → search_rules tree cred label (map path (drop i dirs)) ≡ Some ruled
 closed_here tree cred label path dirs i n ruled within at is = rw (dirs_cons dirs i n within at, is) refl
 
@@ -103,7 +105,8 @@ walked_in_map nodes here text walked same = same ∙ ap (λ (tree : Tree). walk 
 -- a directory on the way denies
 pub denied_on_the_way : (nodes : List (Option NodeAt)) (cred : Cred) (label : Subject) (cwd : ℕ) (text : List ℕ) (walked : Walk) (ruled : Rule)
     → paths_of_walk nodes walked ≡ walk (tree_of nodes) (path_of nodes cwd) text
-    → Some ruled ≡ search_rules (at_path (nodes_from nodes)) cred label (map (path_of nodes) walked.passed.items) → rule_from nodes cred label cwd text ≡ Some ruled
+    → Some ruled ≡ search_rules (at_path (nodes_from nodes)) cred label (map (path_of nodes) walked.passed.items)
+    → rule_from nodes cred label cwd text ≡ Some ruled
 denied_on_the_way nodes cred label cwd text walked ruled same closed =
     let tree : Tree = at_path (nodes_from nodes) in
     let whole : PathWalk = walk tree (path_of nodes cwd) text in

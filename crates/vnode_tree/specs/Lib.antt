@@ -1,6 +1,7 @@
 pub mod Nodes
 pub mod Links
 pub mod Kept
+pub mod Keys
 pub mod Contents
 pub mod Walks
 pub mod Standard

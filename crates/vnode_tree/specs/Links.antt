@@ -1,5 +1,6 @@
 -- How the table keeps the tree: each node names its directory.
-use Rattle.std.specs.Prelude.{ℕ, Bool, false, not, ◌&&◌, zero, suc, ◌==◌, List, [], ◌∷◌, ◌++◌, length, map, Option, Some, None, slice_index_or, slice_set, if◌then◌else◌, option_map}
+use Rattle.std.specs.Prelude.{ℕ, Bool, false, not, ◌&&◌, zero, suc, ◌==◌, List, [], ◌∷◌, ◌++◌, length, map, Option, Some, None, slice_index_or, slice_set}
+use Rattle.std.specs.Prelude.{if◌then◌else◌, option_map}
 use Rattle.std.specs.List.{range_with_len}
 use Rattle.std.specs.Str.{bytes_eq}
 use Rattle.acl_core.specs.declared.entry.Entry.{Entry as ListEntry}

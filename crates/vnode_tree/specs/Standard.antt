@@ -5,7 +5,9 @@ use Rattle.sys_types.specs.declared.limits.TheConstants.{NODES, FILE_SPACE}
 use Rattle.sys_types.specs.declared.limits.TheConstants.{NAME_BYTES}
 use Rattle.vnode_tree.specs.Nodes.{IsLive, node_at, record_of, path_of, tree_of, is_name, count_of}
 use Rattle.vnode_tree.specs.Contents.{space_of}
-pub use Rattle.tree_model.specs.Standard.{attrs_of_owner, super_node, mode_755, mode_777, mode_700, mode_600, mode_644, mode_666, root_node, bin_node, etc_node, home_dir_node, dev_node, tmp_node, standard_dirs, image_text, image_node, digit, tty_line, tty_text, ttys_text, list_nodes, line_name, line_node, tty_node, home_node, with_images, with_lines}
+pub use Rattle.tree_model.specs.Standard.{attrs_of_owner, super_node, mode_755, mode_777, mode_700, mode_600, mode_644, mode_666, root_node, bin_node, etc_node}
+pub use Rattle.tree_model.specs.Standard.{home_dir_node, dev_node, tmp_node, standard_dirs, image_text, image_node, digit, tty_line, tty_text, ttys_text}
+pub use Rattle.tree_model.specs.Standard.{list_nodes, line_name, line_node, tty_node, home_node, with_images, with_lines}
 unfoldable pub use Rattle.tree_model.specs.Standard.{standard}
 
 -- a table of nodes has, at each path, what these nodes have, and there are as many, with as many bytes

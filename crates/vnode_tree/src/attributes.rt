@@ -34,7 +34,8 @@ impl Tree {
     pub fn set_owner(&mut self, node: Node, uid: u32, gid: u32)
         requires { IsLive self.old node }
         ensures set { self.new ≡ with_record (with_owner uid gid) self.old node }
-        ensures map { nodes_from self.new ≡ with_node_at (nodes_from self.old) (path_of self.old node) (option_map (with_owner uid gid) (record_of self.old node)) }
+        ensures map { nodes_from self.new ≡ with_node_at (nodes_from self.old) (path_of self.old node)
+            (option_map (with_owner uid gid) (record_of self.old node)) }
         ensures node { record_of self.old node ≡ at_path (nodes_from self.old) (path_of self.old node) }
     {
         let changed = Attrs {
@@ -49,7 +50,8 @@ impl Tree {
     pub fn set_element(&mut self, node: Node, element: &Element)
         requires { IsLive self.old node }
         ensures set { self.new ≡ with_record (with_element element.now) self.old node }
-        ensures map { nodes_from self.new ≡ with_node_at (nodes_from self.old) (path_of self.old node) (option_map (with_element element.now) (record_of self.old node)) }
+        ensures map { nodes_from self.new ≡ with_node_at (nodes_from self.old) (path_of self.old node)
+            (option_map (with_element element.now) (record_of self.old node)) }
         ensures node { record_of self.old node ≡ at_path (nodes_from self.old) (path_of self.old node) }
     {
         let changed = Attrs {
@@ -64,7 +66,8 @@ impl Tree {
     pub fn set_list(&mut self, node: Node, which: WhichList, list: Result<Acl, AclFault>)
         requires { IsLive self.old node }
         ensures set { (entries : List Entry) → list ≡ acl_of entries → self.new ≡ with_record (with_entries which entries) self.old node }
-        ensures map { (entries : List Entry) → list ≡ acl_of entries → nodes_from self.new ≡ with_node_at (nodes_from self.old) (path_of self.old node) (option_map (with_entries which entries) (record_of self.old node)) }
+        ensures map { (entries : List Entry) → list ≡ acl_of entries → nodes_from self.new
+            ≡ with_node_at (nodes_from self.old) (path_of self.old node) (option_map (with_entries which entries) (record_of self.old node)) }
         ensures node { record_of self.old node ≡ at_path (nodes_from self.old) (path_of self.old node) }
     {
         let attrs = self.attrs(node);

@@ -100,10 +100,10 @@ impl Contents {
         Ok(())
     }
 
-    /// Lets all bytes go.
+    /// Lets all bytes go, with their memory.
     pub(crate) fn clear(&mut self)
         ensures { self.new ≡ [] }
     {
-        self.bytes.clear();
+        self.bytes = Vec::new(*self.bytes.allocator());
     }
 }

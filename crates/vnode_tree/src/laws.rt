@@ -14,14 +14,16 @@ use sys_types::Node;
 /// has at most 1,023 bytes.
 pub fn a_path_leads_to_its_node(tree: &Tree, node: Node)
     requires { IsLive tree.now node }
-    ensures { (here : List (List ℕ)) → length (path_text (path_of tree.now node)) ≤ PATH_BYTES → (walk (tree_of tree.now) here (path_text (path_of tree.now node))).end ≡ found (path_of tree.now node) }
+    ensures { (here : List (List ℕ)) → length (path_text (path_of tree.now node)) ≤ PATH_BYTES
+        → (walk (tree_of tree.now) here (path_text (path_of tree.now node))).end ≡ found (path_of tree.now node) }
 {
     let _ = &tree.entries;
 }
 
 /// To put a node at a path, or to take away what is there, changes what is at that path and at no other.
 pub fn a_node_is_put_at_one_path()
-    ensures { (nodes : Nodes) (path other : List (List ℕ)) (now : Option NodeRecord) → at_path (with_node_at nodes path now) other ≡ (if same_path other path then now else at_path nodes other) }
+    ensures { (nodes : Nodes) (path other : List (List ℕ)) (now : Option NodeRecord)
+        → at_path (with_node_at nodes path now) other ≡ (if same_path other path then now else at_path nodes other) }
 {}
 
 /// The names of a directory are exactly those of its children, and each comes before the next in byte order. No other

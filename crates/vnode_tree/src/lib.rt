@@ -9,14 +9,15 @@
 mod attributes;
 mod contents;
 mod entry;
+mod key;
 pub mod laws;
 mod names;
 mod new_nodes;
+mod places;
 mod resolve;
 mod rights;
 mod standard;
 mod steps;
-mod table;
 mod tree;
 mod walk;
 

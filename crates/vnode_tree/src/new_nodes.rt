@@ -77,11 +77,13 @@ impl Tree {
         ensures denied { result_err result ≡ make_rule_from self.old cred.now label.now dir }
         ensures nothing { OnErr result (self.new ≡ self.old) }
         ensures unused { IfOk result (λ node. node_at self.old node ≡ None) }
-        ensures new_node { IfOk result (λ node. self.new ≡ with_node self.old node (node_with_path (path_in_dir self.old dir name.now) (new_in_dir cred.now label.now umask (record_of self.old dir) kind mode))) }
+        ensures new_node { IfOk result (λ node. self.new ≡ with_node self.old node
+            (node_with_path (path_in_dir self.old dir name.now) (new_in_dir cred.now label.now umask (record_of self.old dir) kind mode))) }
         ensures live { IfOk result (IsLive self.new) }
         ensures path { IfOk result (λ node. path_of self.new node ≡ path_in_dir self.old dir name.now) }
         ensures keeps { OnOk result (Keeps self.old self.new) }
-        ensures map { OnOk result (nodes_from self.new ≡ with_node_at (nodes_from self.old) (path_in_dir self.old dir name.now) (new_in_dir cred.now label.now umask (record_of self.old dir) kind mode)) }
+        ensures map { OnOk result (nodes_from self.new ≡ with_node_at (nodes_from self.old) (path_in_dir self.old dir name.now)
+            (new_in_dir cred.now label.now umask (record_of self.old dir) kind mode)) }
         ensures dir { record_of self.old dir ≡ at_path (nodes_from self.old) (path_of self.old dir) }
     {
         self.may_make(cred, label, dir)?;

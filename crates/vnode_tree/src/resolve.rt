@@ -65,7 +65,8 @@ impl Tree {
         path: &PathText,
     ) -> Result<Place, Rule>
         requires { IsLive self.now cwd }
-        ensures { MatchResult result (LeadsTo self.now cred.now label.now cwd path.now) (λ denied. path_rule (at_path (nodes_from self.now)) cred.now label.now (path_of self.now cwd) path.now ≡ Some denied) }
+        ensures { MatchResult result (LeadsTo self.now cred.now label.now cwd path.now)
+            (λ denied. path_rule (at_path (nodes_from self.now)) cred.now label.now (path_of self.now cwd) path.now ≡ Some denied) }
     {
         let walk = self.walk(cwd, path);
         self.may_search(cred, label, walk.passed.as_slice())?;
@@ -83,7 +84,8 @@ impl Tree {
         path: &PathText,
     ) -> Result<Node, Rule>
         requires { IsLive self.now cwd }
-        ensures { MatchResult result (LeadsToNode self.now cred.now label.now cwd path.now) (λ denied. node_rule (at_path (nodes_from self.now)) cred.now label.now (path_of self.now cwd) path.now ≡ Some denied) }
+        ensures { MatchResult result (LeadsToNode self.now cred.now label.now cwd path.now)
+            (λ denied. node_rule (at_path (nodes_from self.now)) cred.now label.now (path_of self.now cwd) path.now ≡ Some denied) }
     {
         match self.find(cred, label, cwd, path)? {
             Place::Found(node) => Ok(node),

@@ -11,12 +11,15 @@ ghost use Rattle.tree_model.specs.Standard.{standard_tree};
 ghost use Rattle.sys_types.specs.declared.limits.TheConstants.{NODES, FILE_SPACE};
 ghost use Rattle.vnode_tree.specs.Nodes.{NodeAt, IsLive, node_at, path_of, record_of, tree_of, new_node, is_name, count_of};
 ghost use Rattle.vnode_tree.specs.Contents.{space_of};
-ghost use Rattle.vnode_tree.specs.Standard.{IsMapOf, Keeps, AreAtPaths, can_add, mode_755, attrs_of_owner, super_node, root_node, standard_dirs, image_text, image_node, list_nodes, line_node, tty_node, line_name, tty_line, ttys_text, standard, bin_node, etc_node, home_dir_node, dev_node, with_images, with_lines};
+ghost use Rattle.vnode_tree.specs.Standard.{IsMapOf, Keeps, AreAtPaths, can_add, mode_755, attrs_of_owner, super_node, root_node, standard_dirs, image_text};
+ghost use Rattle.vnode_tree.specs.Standard.{image_node, list_nodes, line_node, tty_node, line_name, tty_line, ttys_text, standard, bin_node, etc_node};
+ghost use Rattle.vnode_tree.specs.Standard.{home_dir_node, dev_node, with_images, with_lines};
 
+use crate::NoMemory;
 use crate::contents::Contents;
 use crate::entry::{Entry, Name255};
+use crate::places::Places;
 use crate::tree::{Tree, TreeFull};
-use crate::{NODES, NoMemory};
 use access_rule::Attrs;
 use acl_core::Acl;
 use label_core::Element;
@@ -104,23 +107,20 @@ struct Dirs {
 
 impl Tree {
     /// A tree of a root alone.
-    #[tactic(auto, using(crate::proofs::Roots::push_none))]
     fn of_root(alloc: Global) -> Result<Tree, NoMemory>
         ensures map { IfOk result (λ tree. IsMapOf tree (root_node ∷ [])) }
         ensures at { IfOk result (λ tree. node_at tree 0 ≡ Some root_node) }
     {
-        let mut entries = Vec::with_capacity(alloc, NODES)?;
-        entries.push_reserved(Some(Entry {
+        let root = Entry {
             dir: 0,
             name: InPlace::empty(),
             kind: Kind::Dir,
             attrs: attrs_of_owner(SUPER, SUPER, Kind::Dir, 0o755, Element::Low),
             default: None,
             contents: Contents::empty(alloc),
-        }));
-        for _place in 1..NODES {
-            entries.push_reserved(None);
-        }
+        };
+        let mut entries = Places::all_free(alloc)?;
+        entries.put(0, root);
         Ok(Tree { entries })
     }
 
@@ -130,7 +130,8 @@ impl Tree {
         requires room { IsTrue (can_add self.old dir name.now (length contents)) }
         requires kind { attrs.is_dir ≡ is_dir kind }
         ensures at { node_at self.new result ≡ Some (record { path = path_of self.old dir ++ name.now ∷ []; node = new_node kind attrs None contents }) }
-        ensures grows { (nodes : List NodeAt) → IsMapOf self.old nodes → IsMapOf self.new (nodes ++ record { path = path_of self.old dir ++ name.now ∷ []; node = new_node kind attrs None contents } ∷ []) }
+        ensures grows { (nodes : List NodeAt) → IsMapOf self.old nodes
+            → IsMapOf self.new (nodes ++ record { path = path_of self.old dir ++ name.now ∷ []; node = new_node kind attrs None contents } ∷ []) }
         ensures keeps { Keeps self.old self.new }
     {
         match Name255::from_slice(name) {
@@ -154,8 +155,10 @@ impl Tree {
     ) -> Node
         requires room { IsTrue (can_add self.old dir name.now (length contents)) }
         requires mode { mode < 512 }
-        ensures at { (parent : NodeAt) → node_at self.old dir ≡ Some parent → node_at self.new result ≡ Some (super_node (parent.path ++ name.now ∷ []) kind mode element contents) }
-        ensures grows { (parent : NodeAt) (nodes : List NodeAt) → node_at self.old dir ≡ Some parent → IsMapOf self.old nodes → IsMapOf self.new (nodes ++ super_node (parent.path ++ name.now ∷ []) kind mode element contents ∷ []) }
+        ensures at { (parent : NodeAt) → node_at self.old dir ≡ Some parent
+            → node_at self.new result ≡ Some (super_node (parent.path ++ name.now ∷ []) kind mode element contents) }
+        ensures grows { (parent : NodeAt) (nodes : List NodeAt) → node_at self.old dir ≡ Some parent → IsMapOf self.old nodes
+            → IsMapOf self.new (nodes ++ super_node (parent.path ++ name.now ∷ []) kind mode element contents ∷ []) }
         ensures keeps { Keeps self.old self.new }
     {
         let attrs = attrs_of_owner(SUPER, SUPER, kind, mode, element);

@@ -52,7 +52,8 @@ fn cut_part(path: &[u8]) -> (&[u8], Option<&[u8]>)
 /// The next part that does something, and what is left after it.
 #[tactic(auto, using(crate::proofs::Cuts::skipped_part, crate::proofs::Cuts::kept_part, crate::proofs::Cuts::less_left, crate::proofs::Cuts::kept_step))]
 fn next_part<'a>(path: Option<&'a [u8]>) -> Option<(&'a [u8], Option<&'a [u8]>)>
-    ensures next { MatchOption result (steps_after (option_copied path.entry) ≡ []) (λ pair. steps_after (option_copied path.entry) ≡ pair.0.now ∷ steps_after (option_copied pair.1)) }
+    ensures next { MatchOption result (steps_after (option_copied path.entry) ≡ [])
+        (λ pair. steps_after (option_copied path.entry) ≡ pair.0.now ∷ steps_after (option_copied pair.1)) }
     ensures step { IfSome result (λ pair. IsTrue (is_step pair.0.now)) }
     ensures some { IfSome result (λ pair. 0 < length pair.0.now) }
 {

@@ -1,5 +1,6 @@
 //! The tree: its nodes, made, changed and taken away.
-ghost use Rattle.std.specs.Prelude.{◌≡◌, ◌≢◌, ◌↔◌, ℕ, ◌<◌, ◌≤◌, ◌==◌, List, [], ◌∷◌, ◌++◌, Some, None, Ok, Err, option_map, option_copied, MatchOption, length, not, IsTrue, IsErr, IfOk, OnOk, OnErr, ◌+◌};
+ghost use Rattle.std.specs.Prelude.{◌≡◌, ◌≢◌, ◌↔◌, ℕ, ◌<◌, ◌≤◌, ◌==◌, List, [], ◌∷◌, ◌++◌, Some, None, Ok, Err, option_map, option_copied, MatchOption, length};
+ghost use Rattle.std.specs.Prelude.{not, IsTrue, IsErr, IfOk, OnOk, OnErr, ◌+◌};
 ghost use Rattle.std.specs.Prelude.{nat_lt, codes, IsSome, false};
 ghost use Rattle.std.specs.Bool.{OnTrue, OnFalse};
 ghost use Rattle.tree_model.specs.Tree.{NodeRecord, is_dir, is_dir_record, parent_of, at_path, with_node_at, nodes_from, bytes_in};
@@ -9,13 +10,14 @@ ghost use Rattle.vnode_tree.specs.Contents.{bytes_at, with_write, space_of};
 ghost use Rattle.vnode_tree.specs.Standard.{Keeps};
 ghost use Rattle.sys_types.specs.declared.limits.TheConstants.{NODES, FILE_SPACE, LINES};
 ghost use Rattle.vnode_tree.specs.declared.tree.WriteFault.TheVariants.{Space};
-ghost use Rattle.vnode_tree.specs.Nodes.{IsLive, IsFile, is_file_record, IsAt, IsLeaf, IsRemovable, HasChild, node_at, path_of, record_of, tree_of, with_node, with_record, with_attrs, with_default, with_contents, new_node, is_name, count_of, ChangesAt};
+ghost use Rattle.vnode_tree.specs.Nodes.{IsLive, IsFile, is_file_record, IsAt, IsLeaf, IsRemovable, HasChild, node_at, path_of, record_of, tree_of, with_node};
+ghost use Rattle.vnode_tree.specs.Nodes.{with_record, with_attrs, with_default, with_contents, new_node, is_name, count_of, ChangesAt};
 
 use crate::FILE_SPACE;
 use crate::contents::Contents;
 use crate::entry::{Entry, Name255};
+use crate::places::Places;
 use crate::standard::line_name;
-use crate::table::{self, child_place, entry_of, first_child, free_place};
 use access_rule::Attrs;
 use acl_core::Acl;
 use std::alloc::AllocError;
@@ -38,7 +40,7 @@ pub enum WriteFault {
 /// The file tree. Contracts see of it, for each node, its path and what it is.
 #[derive(Drop)]
 pub struct Tree {
-    pub(crate) entries: Vec<Option<Entry>>,
+    pub(crate) entries: Places,
 }
 
 impl Model for Tree {
@@ -50,9 +52,9 @@ impl Model for Tree {
     ghost use Rattle.vnode_tree.specs.Links.{nodes_of};
     ghost use Rattle.vnode_tree.specs.Kept.{IsKept};
 
-    ghost view = { λ t. nodes_of t.entries.items };
+    ghost view = { λ t. nodes_of t.entries };
 
-    ghost invariant = { λ t. IsKept t.entries.items };
+    ghost invariant = { λ t. IsKept t.entries };
 }
 
 impl Tree {
@@ -86,7 +88,7 @@ impl Tree {
         ensures file { result ≡ is_file_record (record_of self.now node) }
         ensures map { record_of self.now node ≡ at_path (nodes_from self.now) (path_of self.now node) }
     {
-        matches!(entry_of(self.entries.as_slice(), node).kind, Kind::File)
+        matches!(self.entries.entry_of(node).kind, Kind::File)
     }
 
     /// Whether a node is a directory. The node is live.
@@ -97,7 +99,7 @@ impl Tree {
         ensures itself { result ≡ is_dir_record (record_of self.now node) }
         ensures map { record_of self.now node ≡ at_path (nodes_from self.now) (path_of self.now node) }
     {
-        matches!(entry_of(self.entries.as_slice(), node).kind, Kind::Dir)
+        matches!(self.entries.entry_of(node).kind, Kind::Dir)
     }
 
     /// The directory that a node is in; the root is in itself. The node is live.
@@ -105,7 +107,7 @@ impl Tree {
         requires { IsLive self.now node }
         ensures { IsAt self.now (parent_of (path_of self.now node)) result }
     {
-        let dir = entry_of(self.entries.as_slice(), node).dir;
+        let dir = self.entries.entry_of(node).dir;
         if node.number() == 0 {
             return node;
         }
@@ -116,9 +118,10 @@ impl Tree {
     pub(crate) fn child(&self, dir: Node, name: &[u8]) -> Option<Node>
         requires live { IsLive self.now dir }
         requires some { 0 < length name.now }
-        ensures { MatchOption result (tree_of self.now (path_of self.now dir ++ name.now ∷ []) ≡ None) (λ node. IsAt self.now (path_of self.now dir ++ name.now ∷ []) node) }
+        ensures { MatchOption result (tree_of self.now (path_of self.now dir ++ name.now ∷ []) ≡ None)
+            (λ node. IsAt self.now (path_of self.now dir ++ name.now ∷ []) node) }
     {
-        match child_place(self.entries.as_slice(), dir.number(), name) {
+        match self.entries.child_place(dir.number(), name) {
             None => None,
             Some(place) => Some(Node::of(place as u16)),
         }
@@ -157,7 +160,7 @@ impl Tree {
     pub fn is_full(&self) -> bool
         ensures { result ≡ (length (nodes_from self.now) == NODES) }
     {
-        match free_place(self.entries.as_slice()) {
+        match self.entries.free_place() {
             Some(_) => false,
             None => true,
         }
@@ -170,7 +173,7 @@ impl Tree {
         ensures none { OnFalse result (IsLeaf self.now (path_of self.now node)) }
         ensures map { result ≡ not (is_empty_dir (nodes_from self.now) (path_of self.now node)) }
     {
-        match first_child(self.entries.as_slice(), node.number()) {
+        match self.entries.first_child(node.number()) {
             Some(_) => true,
             None => false,
         }
@@ -184,7 +187,7 @@ impl Tree {
         ensures there { record_of self.now node ≡ tree_of self.now (path_of self.now node) }
         ensures map { record_of self.now node ≡ at_path (nodes_from self.now) (path_of self.now node) }
     {
-        entry_of(self.entries.as_slice(), node).kind
+        self.entries.entry_of(node).kind
     }
 
     /// What access to a node depends on. The node is live.
@@ -196,7 +199,7 @@ impl Tree {
         ensures there { record_of self.now node ≡ tree_of self.now (path_of self.now node) }
         ensures map { record_of self.now node ≡ at_path (nodes_from self.now) (path_of self.now node) }
     {
-        &entry_of(self.entries.as_slice(), node).attrs
+        &self.entries.entry_of(node).attrs
     }
 
     /// The list that a node gives to new nodes in it, if it has one. The node is live.
@@ -206,7 +209,7 @@ impl Tree {
         ensures list { option_map (λ r. r.default) (record_of self.now node) ≡ Some (option_copied result) }
         ensures map { record_of self.now node ≡ at_path (nodes_from self.now) (path_of self.now node) }
     {
-        entry_of(self.entries.as_slice(), node).default.as_ref()
+        self.entries.entry_of(node).default.as_ref()
     }
 
     /// How many bytes a node holds. The node is live. (stat(2))
@@ -216,7 +219,7 @@ impl Tree {
         ensures size { option_map (λ r. length r.contents) (record_of self.now node) ≡ Some result }
         ensures map { record_of self.now node ≡ at_path (nodes_from self.now) (path_of self.now node) }
     {
-        entry_of(self.entries.as_slice(), node).contents.len() as u32
+        self.entries.entry_of(node).contents.len() as u32
     }
 
     /// Makes a node of that name in a directory. `TreeFull` comes exactly where there are 1,024 nodes, and then
@@ -239,14 +242,16 @@ impl Tree {
         ensures full { IsErr result ↔ (count_of self.old ≡ NODES) }
         ensures full_map { IsErr result ↔ (length (nodes_from self.old) ≡ NODES) }
         ensures free { IfOk result (λ node. node_at self.old node ≡ None) }
-        ensures new_node { IfOk result (λ node. self.new ≡ with_node self.old node (Some (record { path = path_of self.old dir ++ name.now ∷ []; node = new_node kind attrs default [] }))) }
+        ensures new_node { IfOk result (λ node. self.new ≡ with_node self.old node
+            (Some (record { path = path_of self.old dir ++ name.now ∷ []; node = new_node kind attrs default [] }))) }
         ensures live { IfOk result (λ node. IsLive self.new node) }
         ensures changes { OnOk result (ChangesAt (path_of self.old dir ++ name.now ∷ []) (Some (new_node kind attrs default [])) self.old self.new) }
-        ensures map { OnOk result (nodes_from self.new ≡ with_node_at (nodes_from self.old) (path_of self.old dir ++ name.now ∷ []) (Some (new_node kind attrs default []))) }
+        ensures map { OnOk result (nodes_from self.new ≡ with_node_at (nodes_from self.old) (path_of self.old dir ++ name.now ∷ [])
+            (Some (new_node kind attrs default []))) }
         ensures keeps { OnOk result (Keeps self.old self.new) }
         ensures err { OnErr result (self.new ≡ self.old) }
     {
-        let contents = Contents::empty(*self.entries.allocator());
+        let contents = self.entries.no_contents();
         self.make(dir, name, kind, attrs, default, contents)
     }
 
@@ -268,26 +273,29 @@ impl Tree {
         ensures full { IsErr result ↔ (count_of self.old ≡ NODES) }
         ensures full_map { IsErr result ↔ (length (nodes_from self.old) ≡ NODES) }
         ensures free { IfOk result (λ node. node_at self.old node ≡ None) }
-        ensures new_node { IfOk result (λ node. self.new ≡ with_node self.old node (Some (record { path = path_of self.old dir ++ name.now ∷ []; node = new_node kind attrs default contents }))) }
+        ensures new_node { IfOk result (λ node. self.new ≡ with_node self.old node
+            (Some (record { path = path_of self.old dir ++ name.now ∷ []; node = new_node kind attrs default contents }))) }
         ensures live { IfOk result (λ node. IsLive self.new node) }
         ensures changes { OnOk result (ChangesAt (path_of self.old dir ++ name.now ∷ []) (Some (new_node kind attrs default contents)) self.old self.new) }
-        ensures map { OnOk result (nodes_from self.new ≡ with_node_at (nodes_from self.old) (path_of self.old dir ++ name.now ∷ []) (Some (new_node kind attrs default contents))) }
+        ensures map { OnOk result (nodes_from self.new ≡ with_node_at (nodes_from self.old) (path_of self.old dir ++ name.now ∷ [])
+            (Some (new_node kind attrs default contents))) }
         ensures count { OnOk result (count_of self.new ≡ count_of self.old + 1) }
         ensures space { OnOk result (space_of self.new ≡ space_of self.old + length contents) }
         ensures keeps { OnOk result (Keeps self.old self.new) }
         ensures err { OnErr result (self.new ≡ self.old) }
     {
-        let Some(place) = free_place(self.entries.as_slice()) else {
+        let Some(place) = self.entries.free_place() else {
             return Err(TreeFull);
         };
-        self.entries[place] = Some(Entry {
+        let entry = Entry {
             dir: dir.number(),
             name: name.copy(),
             kind,
             attrs,
             default,
             contents,
-        });
+        };
+        self.entries.put(place, entry);
         Ok(Node::of(place as u16))
     }
 
@@ -299,7 +307,7 @@ impl Tree {
         ensures changes { ChangesAt (path_of self.old node) None self.old self.new }
         ensures map { nodes_from self.new ≡ with_node_at (nodes_from self.old) (path_of self.old node) None }
     {
-        table::take_away(self.entries.as_mut_slice(), node);
+        self.entries.take_away(node);
     }
 
     /// Changes what access to a node depends on. The node is live, and the attributes are a directory's exactly for a
@@ -309,9 +317,10 @@ impl Tree {
         requires kind { attrs.is_dir ≡ is_dir_record (record_of self.old node) }
         ensures set { self.new ≡ with_record (with_attrs attrs) self.old node }
         ensures changes { ChangesAt (path_of self.old node) (option_map (with_attrs attrs) (record_of self.old node)) self.old self.new }
-        ensures map { nodes_from self.new ≡ with_node_at (nodes_from self.old) (path_of self.old node) (option_map (with_attrs attrs) (record_of self.old node)) }
+        ensures map { nodes_from self.new ≡ with_node_at (nodes_from self.old) (path_of self.old node)
+            (option_map (with_attrs attrs) (record_of self.old node)) }
     {
-        table::set_attrs(self.entries.as_mut_slice(), node, attrs);
+        self.entries.set_attrs(node, attrs);
     }
 
     /// Changes the list that a node gives to new nodes in it, or takes it away. The node is live.
@@ -319,9 +328,10 @@ impl Tree {
         requires live { IsLive self.old node }
         ensures set { self.new ≡ with_record (with_default list) self.old node }
         ensures changes { ChangesAt (path_of self.old node) (option_map (with_default list) (record_of self.old node)) self.old self.new }
-        ensures map { nodes_from self.new ≡ with_node_at (nodes_from self.old) (path_of self.old node) (option_map (with_default list) (record_of self.old node)) }
+        ensures map { nodes_from self.new ≡ with_node_at (nodes_from self.old) (path_of self.old node)
+            (option_map (with_default list) (record_of self.old node)) }
     {
-        table::set_default(self.entries.as_mut_slice(), node, list);
+        self.entries.set_default(node, list);
     }
 
     /// At most `max` bytes of a file from a place on. The node is a live file, and `max` is at most 512.
@@ -332,7 +342,7 @@ impl Tree {
         ensures bytes { option_map (λ r. bytes_at at max r.contents) (record_of self.now node) ≡ Some result }
         ensures map { record_of self.now node ≡ at_path (nodes_from self.now) (path_of self.now node) }
     {
-        let entry = entry_of(self.entries.as_slice(), node);
+        let entry = self.entries.entry_of(node);
         entry.contents.read(at as usize, usize::from(max))
     }
 
@@ -346,8 +356,8 @@ impl Tree {
         ensures behind { result ≡ false → 0 < length bytes.now → at + length bytes.now ≤ FILE_SPACE }
         ensures node { record_of self.now node ≡ at_path (nodes_from self.now) (path_of self.now node) }
     {
-        let contents = &entry_of(self.entries.as_slice(), node).contents;
-        let others = table::all_sizes(self.entries.as_slice()) - contents.len();
+        let contents = &self.entries.entry_of(node).contents;
+        let others = self.entries.total() - contents.len();
         contents.len_after(at, bytes) > FILE_SPACE - others
     }
 
@@ -359,18 +369,20 @@ impl Tree {
     pub fn write(&mut self, node: Node, at: u32, bytes: &[u8]) -> Result<(), WriteFault>
         requires { IsFile self.old node }
         ensures space { (result ≡ Err Space) ↔ (FILE_SPACE < space_of (with_record (with_write at bytes.now) self.old node)) }
-        ensures space_map { (result ≡ Err Space) ↔ (FILE_SPACE < bytes_in (with_node_at (nodes_from self.old) (path_of self.old node) (option_map (with_write at bytes.now) (record_of self.old node)))) }
+        ensures space_map { (result ≡ Err Space) ↔ (FILE_SPACE < bytes_in
+            (with_node_at (nodes_from self.old) (path_of self.old node) (option_map (with_write at bytes.now) (record_of self.old node)))) }
         ensures after_write { OnOk result (self.new ≡ with_record (with_write at bytes.now) self.old node) }
         ensures behind { OnOk result (0 < length bytes.now → at + length bytes.now ≤ FILE_SPACE) }
         ensures node { record_of self.old node ≡ at_path (nodes_from self.old) (path_of self.old node) }
         ensures changes { OnOk result (ChangesAt (path_of self.old node) (option_map (with_write at bytes.now) (record_of self.old node)) self.old self.new) }
-        ensures map { OnOk result (nodes_from self.new ≡ with_node_at (nodes_from self.old) (path_of self.old node) (option_map (with_write at bytes.now) (record_of self.old node))) }
+        ensures map { OnOk result (nodes_from self.new ≡ with_node_at (nodes_from self.old) (path_of self.old node)
+            (option_map (with_write at bytes.now) (record_of self.old node))) }
         ensures err { OnErr result (self.new ≡ self.old) }
     {
         if self.lacks_space(node, at, bytes) {
             return Err(WriteFault::Space);
         }
-        match table::write(self.entries.as_mut_slice(), node, at, bytes) {
+        match self.entries.write(node, at, bytes) {
             Ok(()) => return Ok(()),
             Err(AllocError) => return Err(WriteFault::NoMemory),
         }
@@ -382,8 +394,9 @@ impl Tree {
         ensures cut { self.new ≡ with_record (with_contents []) self.old node }
         ensures changes { ChangesAt (path_of self.old node) (option_map (with_contents []) (record_of self.old node)) self.old self.new }
         ensures node { record_of self.old node ≡ at_path (nodes_from self.old) (path_of self.old node) }
-        ensures map { nodes_from self.new ≡ with_node_at (nodes_from self.old) (path_of self.old node) (option_map (with_contents []) (record_of self.old node)) }
+        ensures map { nodes_from self.new ≡ with_node_at (nodes_from self.old) (path_of self.old node)
+            (option_map (with_contents []) (record_of self.old node)) }
     {
-        table::clear(self.entries.as_mut_slice(), node);
+        self.entries.clear(node);
     }
 }

@@ -70,7 +70,8 @@ impl Tree {
         requires live { IsLive self.now from }
         requires room { length passed.old.items + length steps.old ≤ MOST_PARTS }
         requires so_far { All (IsLive self.now) passed.old.items }
-        ensures passes { Passes (walk_from (tree_of self.now) (path_of self.now from) steps.old) (map (path_of self.now) passed.old.items) (map (path_of self.now) passed.new.items) (paths_of_end self.now result) }
+        ensures passes { Passes (walk_from (tree_of self.now) (path_of self.now from) steps.old) (map (path_of self.now) passed.old.items)
+            (map (path_of self.now) passed.new.items) (paths_of_end self.now result) }
         ensures lives { All (IsLive self.now) passed.new.items }
         ensures live_end { IsLiveEnd self.now result }
     {

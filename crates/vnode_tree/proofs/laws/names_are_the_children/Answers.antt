@@ -6,7 +6,7 @@ use Rattle.vnode_tree.proofs.laws.names_are_the_children.Goals as goal
 
 -- no two nodes of the tree have one path
 all_apart : (c : goal.After-tree) → ArePathsApart c.args.tree.now
-all_apart c = subst ArePathsApart c.tree.view_is (paths_apart c.tree.inside.entries.items c.tree.invariant)
+all_apart c = subst ArePathsApart c.tree.view_is (paths_apart c.tree.inside.entries c.tree.invariant)
 
 pub returns-clause-children : goal.returns-clause-children
 returns-clause-children c = are_below c.args.tree.now c.args.dir

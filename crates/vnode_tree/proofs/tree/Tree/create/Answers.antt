@@ -6,7 +6,7 @@ pub make-requires-clause-room : goal.make-requires-clause-room
 make-requires-clause-room c =
     omega (
       arith,
-      ap (λ (xs : List ℕ). length xs) c.empty-contents.ensures,
-      space_is c.self.inside.entries.items c.args.self.now c.self.view_is c.self.invariant,
+      ap (λ (xs : List ℕ). length xs) c.no_contents-contents.ensures,
+      space_is c.self.inside.entries c.args.self.now c.self.view_is c.self.invariant,
       c.self.invariant.space,
     )

@@ -9,7 +9,7 @@ use Rattle.vnode_tree.proofs.tree.Tree.device.Goals as goal
 
 pub returns-in_default : goal.returns-in_default
 returns-in_default c =
-    nothing_below c.self.inside.entries.items c.args.self.now (codes "dev") c.args.name.now c.self.view_is c.self.invariant
+    nothing_below c.self.inside.entries c.args.self.now (codes "dev") c.args.name.now c.self.view_is c.self.invariant
     (ap (λ path. tree_of c.args.self.now (path ++ codes "dev" ∷ [])) (sym c.root.ensures.path) ∙ c.in_default.ensures)
 
 pub returns : goal.returns

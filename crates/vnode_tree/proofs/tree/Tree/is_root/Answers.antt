@@ -6,8 +6,8 @@ use Rattle.vnode_tree.proofs.tree.Tree.is_root.Goals as goal
 pub returns-then-number-eq0-clause-root : goal.returns-then-number-eq0-clause-root
 returns-then-number-eq0-clause-root c =
     ap (path_of c.args.self.now) (sym c.number.ensures ∙ c.if-number-eq0.true)
-    ∙ (root_at c.self.inside.entries.items c.args.self.now c.self.view_is c.self.invariant).here
+    ∙ (root_at c.self.inside.entries c.args.self.now c.self.view_is c.self.invariant).here
 
 pub returns-clause-below : goal.returns-clause-below
 returns-clause-below c path =
-    c.if-number-eq0.false (c.number.ensures ∙ only_root c.self.inside.entries.items c.args.self.now c.args.node c.self.view_is c.self.invariant c.requires path)
+    c.if-number-eq0.false (c.number.ensures ∙ only_root c.self.inside.entries c.args.self.now c.args.node c.self.view_is c.self.invariant c.requires path)

@@ -5,20 +5,18 @@ use Rattle.vnode_tree.proofs.Looks.{live_entry, record_is}
 use Rattle.std.proofs.lemmas.Bool.{ltb-false}
 use Rattle.vnode_tree.proofs.Files.{file_live, length_written, weighed}
 use Rattle.vnode_tree.proofs.Finite.{bytes_after, apart_table, what_is_at}
-use Rattle.vnode_tree.specs.Links.{entry_at}
 use Rattle.vnode_tree.proofs.tree.Tree.lacks_space.Goals as goal
 
 pub entry_of-requires : goal.entry_of-requires
 entry_of-requires c =
-    rw c.as_slice.ensures.value
-    (live_entry c.self.inside.entries.items c.args.self.now c.args.node c.self.view_is (file_live c.args.self.now c.args.node c.requires))
+    live_entry c.self.inside.entries c.args.self.now c.args.node c.self.view_is (file_live c.args.self.now c.args.node c.requires)
 
 pub returns-clause-table : goal.returns-clause-table
 returns-clause-table c =
     let w =
-    weighed c.self.inside.entries.items c.as_slice.result.now c.as_slice-2.result.now c.args.self.now c.args.node c.entry_of.result.now c.args.at
-    c.args.bytes.now c.all_sizes.result c.len.result c.len_after.result c.self.view_is c.self.invariant c.as_slice.ensures.value c.as_slice-2.ensures.value
-    c.entry_of.ensures c.all_sizes.ensures c.len.ensures c.len_after.ensures in
+    weighed c.self.inside.entries c.args.self.now c.args.node c.entry_of.result.now c.args.at
+    c.args.bytes.now c.total.result c.len.result c.len_after.result c.self.view_is c.self.invariant
+    c.entry_of.ensures c.total.ensures c.len.ensures c.len_after.ensures in
     grind (arith, w.whole, w.part, w.most)
 
 pub returns-clause-map : goal.returns-clause-map
@@ -27,20 +25,19 @@ returns-clause-map c =
     ∙ ap (nat_lt 4194304)
     (sym
     (bytes_after (with_write c.args.at c.args.bytes.now) c.args.self.now c.args.node
-    (apart_table c.self.inside.entries.items c.args.self.now c.self.view_is c.self.invariant) (file_live c.args.self.now c.args.node c.requires)))
+    (apart_table c.self.inside.entries c.args.self.now c.self.view_is c.self.invariant) (file_live c.args.self.now c.args.node c.requires)))
 
 pub returns-clause-behind : goal.returns-clause-behind
 returns-clause-behind c = λ room some.
     let w =
-    weighed c.self.inside.entries.items c.as_slice.result.now c.as_slice-2.result.now c.args.self.now c.args.node c.entry_of.result.now c.args.at
-    c.args.bytes.now c.all_sizes.result c.len.result c.len_after.result c.self.view_is c.self.invariant c.as_slice.ensures.value c.as_slice-2.ensures.value
-    c.entry_of.ensures c.all_sizes.ensures c.len.ensures c.len_after.ensures in
+    weighed c.self.inside.entries c.args.self.now c.args.node c.entry_of.result.now c.args.at
+    c.args.bytes.now c.total.result c.len.result c.len_after.result c.self.view_is c.self.invariant
+    c.entry_of.ensures c.total.ensures c.len.ensures c.len_after.ensures in
     let whole = ltb-false _ _ (sym (returns-clause-table c) ∙ room) in
     let end = c.len_after.ensures ∙ length_written c.entry_of.result.now.contents c.args.bytes.now c.args.at some in
     omega (arith, w.whole, w.part, w.most, whole, end)
 
 pub returns-clause-node : goal.returns-clause-node
 returns-clause-node c =
-    let here = ap (λ es. entry_at es c.args.node) (sym c.as_slice.ensures.value) ∙ c.entry_of.ensures in
-    record_is c.self.inside.entries.items c.args.self.now c.args.node c.entry_of.result.now c.self.view_is c.self.invariant here
-    ∙ sym (what_is_at c.self.inside.entries.items c.args.self.now c.args.node c.entry_of.result.now c.self.view_is c.self.invariant here)
+    record_is c.self.inside.entries c.args.self.now c.args.node c.entry_of.result.now c.self.view_is c.self.invariant c.entry_of.ensures
+    ∙ sym (what_is_at c.self.inside.entries c.args.self.now c.args.node c.entry_of.result.now c.self.view_is c.self.invariant c.entry_of.ensures)

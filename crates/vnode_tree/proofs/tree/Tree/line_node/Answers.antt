@@ -8,7 +8,7 @@ use Rattle.vnode_tree.proofs.tree.Tree.line_node.Goals.{In-Some}
 
 pub unreachable-requires : goal.unreachable-requires
 unreachable-requires c =
-    dir_there c.self.inside.entries.items c.args.self.now (codes "dev") (line_name c.args.line) c.self.view_is c.self.invariant c.requires.there
+    dir_there c.self.inside.entries c.args.self.now (codes "dev") (line_name c.args.line) c.self.view_is c.self.invariant c.requires.there
     (ap (λ path. tree_of c.args.self.now (path ++ codes "dev" ∷ [])) (sym c.root.ensures.path) ∙ c.in_default.ensures)
 
 -- the directory of lines

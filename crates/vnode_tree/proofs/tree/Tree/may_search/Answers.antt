@@ -14,7 +14,8 @@ returns-in_err-may_access c =
     let closed =
     closed_here (at_path (nodes_from nodes)) c.args.cred.now c.args.label.now (path_of nodes) c.args.dirs.now c.loop-dir.dir-index c.dir-item.result
     c.in_err-may_access.field-0.0 c.loop-dir-test.true c.dir-item.is
-    (ap (search_rule c.args.cred.now c.args.label.now) (sym c.may_access.ensures.map) ∙ sym c.may_access.ensures.denied ∙ ap result_err c.in_err-may_access.was) in
+    (ap (search_rule c.args.cred.now c.args.label.now) (sym c.may_access.ensures.map)
+    ∙ sym c.may_access.ensures.denied ∙ ap result_err c.in_err-may_access.was) in
     rw (same.1, same.2) (sym closed ∙ c.loop-dir.invariant)
 
 pub loop-dir-preserved : goal.loop-dir-preserved
@@ -23,5 +24,6 @@ loop-dir-preserved c =
     let free =
     open_here (at_path (nodes_from nodes)) c.args.cred.now c.args.label.now (path_of nodes) c.args.dirs.now c.loop-dir.dir-index c.dir-item.result
     c.loop-dir-test.true c.dir-item.is
-    (ap (search_rule c.args.cred.now c.args.label.now) (sym c.may_access.ensures.map) ∙ sym c.may_access.ensures.denied ∙ ap result_err c.in_ok-may_access.was) in
+    (ap (search_rule c.args.cred.now c.args.label.now) (sym c.may_access.ensures.map)
+    ∙ sym c.may_access.ensures.denied ∙ ap result_err c.in_ok-may_access.was) in
     sym free ∙ c.loop-dir.invariant

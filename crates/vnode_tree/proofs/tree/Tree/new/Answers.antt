@@ -20,4 +20,4 @@ pub returns-clause-nodes : goal.returns-clause-nodes
 returns-clause-nodes c = standard_nodes _ c.args.boot.now (returns-clause-map c)
 
 pub returns-clause-places : goal.returns-clause-places
-returns-clause-places c = at_paths c.tree-2.inside.entries.items _ c.tree-2.view_is c.tree-2.invariant
+returns-clause-places c = at_paths c.tree-2.inside.entries _ c.tree-2.view_is c.tree-2.invariant

@@ -1,17 +1,17 @@
 use Rattle.std.proofs.Common.{sym, ◌∙◌}
 use Rattle.vnode_tree.proofs.Looks.{live_entry}
-use Rattle.vnode_tree.proofs.Children.{root_dir, parent_at}
+use Rattle.vnode_tree.proofs.Children.{root_dir, dir_of}
 use Rattle.vnode_tree.proofs.tree.Tree.parent.Goals as goal
 
 pub entry_of-requires : goal.entry_of-requires
-entry_of-requires c = rw c.as_slice.ensures.value (live_entry c.self.inside.entries.items c.args.self.now c.args.node c.self.view_is c.requires)
+entry_of-requires c = live_entry c.self.inside.entries c.args.self.now c.args.node c.self.view_is c.requires
 
 pub returns-then-number-eq0 : goal.returns-then-number-eq0
 returns-then-number-eq0 c =
-    root_dir c.self.inside.entries.items c.args.self.now c.args.node c.self.view_is c.self.invariant (sym c.number.ensures ∙ c.if-number-eq0.true)
+    root_dir c.self.inside.entries c.args.self.now c.args.node c.self.view_is c.self.invariant (sym c.number.ensures ∙ c.if-number-eq0.true)
 
 pub returns : goal.returns
 returns c =
     rw c.of.ensures
-    (parent_at c.self.inside.entries.items c.as_slice.result.now c.args.self.now c.args.node c.entry_of.result.now c.self.view_is c.self.invariant
-    c.as_slice.ensures.value c.entry_of.ensures (λ zero_is. c.if-number-eq0.false (c.number.ensures ∙ zero_is)))
+    (dir_of c.self.inside.entries c.args.self.now c.args.node c.entry_of.result.now c.self.view_is c.self.invariant c.entry_of.ensures
+    (λ zero_is. c.if-number-eq0.false (c.number.ensures ∙ zero_is)))

@@ -1,32 +1,25 @@
-use Rattle.vnode_tree.specs.Links.{entry_with_attrs}
-use Rattle.vnode_tree.proofs.Calls.{attrs_set, entry_written}
+use Rattle.vnode_tree.proofs.Calls.{attrs_set}
 use Rattle.vnode_tree.proofs.Finite.{nodes_changed}
 use Rattle.vnode_tree.proofs.Looks.{live_entry}
 use Rattle.vnode_tree.proofs.tree.Tree.set_attrs.Goals as goal
 
 pub set_attrs-requires : goal.set_attrs-requires
-set_attrs-requires c = rw c.as_mut_slice.ensures.value (live_entry c.self.inside.entries.items c.args.self.now c.args.node c.self.view_is c.requires.live)
+set_attrs-requires c = live_entry c.self.inside.entries c.args.self.now c.args.node c.self.view_is c.requires.live
 
 pub invariant_of-self : goal.invariant_of-self
 invariant_of-self c =
-    rw
-    (entry_written (entry_with_attrs c.args.attrs) c.self.inside.entries.len c.self.inside.entries.items c.as_mut_slice.result.now c.set_attrs.new.entries
-    c.args.node c.self.inside.entries.ok.0 c.as_mut_slice.ensures.value c.set_attrs.ensures)
-    (attrs_set c.args.attrs c.self.inside.entries.items c.args.self.now c.args.node c.self.view_is c.self.invariant c.requires.live c.requires.kind).kept
+    rw c.set_attrs.ensures
+    (attrs_set c.args.attrs c.self.inside.entries c.args.self.now c.args.node c.self.view_is c.self.invariant c.requires.live c.requires.kind).kept
 
 pub returns-clause-set : goal.returns-clause-set
 returns-clause-set c =
-    rw
-    (entry_written (entry_with_attrs c.args.attrs) c.self.inside.entries.len c.self.inside.entries.items c.as_mut_slice.result.now c.set_attrs.new.entries
-    c.args.node c.self.inside.entries.ok.0 c.as_mut_slice.ensures.value c.set_attrs.ensures)
-    (attrs_set c.args.attrs c.self.inside.entries.items c.args.self.now c.args.node c.self.view_is c.self.invariant c.requires.live c.requires.kind).set
+    rw c.set_attrs.ensures
+    (attrs_set c.args.attrs c.self.inside.entries c.args.self.now c.args.node c.self.view_is c.self.invariant c.requires.live c.requires.kind).set
 
 pub returns-clause-changes : goal.returns-clause-changes
 returns-clause-changes c =
-    rw
-    (entry_written (entry_with_attrs c.args.attrs) c.self.inside.entries.len c.self.inside.entries.items c.as_mut_slice.result.now c.set_attrs.new.entries
-    c.args.node c.self.inside.entries.ok.0 c.as_mut_slice.ensures.value c.set_attrs.ensures)
-    (attrs_set c.args.attrs c.self.inside.entries.items c.args.self.now c.args.node c.self.view_is c.self.invariant c.requires.live c.requires.kind).changes
+    rw c.set_attrs.ensures
+    (attrs_set c.args.attrs c.self.inside.entries c.args.self.now c.args.node c.self.view_is c.self.invariant c.requires.live c.requires.kind).changes
 
 pub returns-clause-map : goal.returns-clause-map
 returns-clause-map c = nodes_changed _ _ _ _ (returns-clause-changes c)

@@ -1,0 +1,13 @@
+-- Neither a key nor the total depends on a list for new nodes.
+use Rattle.std.proofs.Common.{◌≡◌, Some, refl, ◌∙◌}
+use Rattle.vnode_tree.specs.Links.{entry_at}
+use Rattle.vnode_tree.proofs.Indexes.{stands, entry_changed}
+use Rattle.vnode_tree.proofs.places.Places.set_default.Goals as goal
+
+pub invariant_of-self : goal.invariant_of-self
+invariant_of-self c =
+    let at : entry_at c.self.inside.entries.items c.from.result ≡ Some c.in-Some.entry =
+    stands c.self.inside.entries.items c.args.self.now c.from.result c.args.node c.in-Some.entry c.index_mut.result.now c.self.view_is c.requires
+    (c.from.ensures ∙ c.number.ensures) c.index_mut.ensures.value c.in-Some.is in
+    entry_changed c.self.inside.entries.items c.self.inside.keys.items c.self.inside.total c.from.result c.in-Some.entry _ c.self.inside.total
+    c.self.invariant at refl refl
