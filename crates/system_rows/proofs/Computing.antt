@@ -46,7 +46,8 @@ use Rattle.acl_core.specs.Reading.{digits_at, number_at, numbered_at, qualifier_
 use Rattle.acl_core.specs.Text.{list_text}
 use Rattle.label_core.specs.CompSet.{numbers_in}
 use Rattle.label_core.specs.Element.{dom}
-use Rattle.label_core.specs.Reading.{after_word, number_at as label_number_at, compartments_within, compartments_at, grade_at, body_at, element_at, range_at, whole_element, whole_parts, whole_subject, element_of, subject_of}
+use Rattle.label_core.specs.Reading.{after_word, number_at as label_number_at, compartments_within, compartments_at, grade_at, body_at, element_at, range_at}
+use Rattle.label_core.specs.Reading.{whole_element, whole_parts, whole_subject, element_of, subject_of}
 use Rattle.label_core.specs.Text.{element_text, subject_text}
 use Rattle.tree_model.specs.Contents.{after_write}
 use Rattle.tree_model.specs.Listing.{names_under, most_that_fit, names_text}

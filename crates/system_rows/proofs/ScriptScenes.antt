@@ -1,6 +1,6 @@
 -- Whole scripts, as far as they go, with answers that were worked out by another program.
-use Rattle.std.proofs.Common.{◌≡◌, [], ◌∷◌, codes, refl}
-use Rattle.system_rows.specs.Scenes.{wrong}
+use Rattle.std.proofs.Common.{◌≡◌, [], ◌∷◌, ◌++◌, codes, refl}
+use Rattle.system_rows.specs.Scenes.{wrong, times}
 use Rattle.system_rows.proofs.Computing.{scenes_compute}
 
 script_of_shared_0 : wrong (codes "recheck on\n") (
@@ -13,7 +13,9 @@ script_of_shared_0 : wrong (codes "recheck on\n") (
     ∷ codes "0 write 26 7369 -> 0 err EBADF bad-fd"
     ∷ codes "1 again -> 1 sleep carrier"
     ∷ codes "0 setlabel /dev/tty mls/equal -> 0 ok 0"
-    ∷ codes "2 setacl aaaaaaaaaaaaaaaaaaaaaaaaaaaaaaaaaaaaaaaaaaaaaaaaaaaaaaaaaaaaaaaaaaaaaaaaaaaaaaaaaaaaaaaaaaaaaaaaaaaaaaaaaaaaaaaaaaaaaaaaaaaaaaaaaaaaaaaaaaaaaaaaaaaaaaaaaaaaaaaaaaaaaaaaaaaaaaaaaaaaaaaaaaaaaaaaaaaaaaaaaaaaaaaaaaaaaaaaaaaaaaaaaaaaaaaaaaaaaaaaaaaaaaaaaaaaaaaa access user::-w-,group::rwx,other::---,user:0:---,user:1001:---,group:0:rw-,group:200:rwx,mask::--- -> 2 err ENAMETOOLONG name-long"
+    ∷ (codes "2 setacl " ++ times 256 (codes "a")
+    ++ codes " access user::-w-,group::rwx,other::---,user:0:---,user:1001:---,group:0:rw-,group:200:rwx,"
+    ++ codes "mask::--- -> 2 err ENAMETOOLONG name-long")
     ∷ codes "0 pipe -> 0 pair 0 1"
     ∷ codes "0 pipe -> 0 pair 2 3"
     ∷ codes "0 pipe -> 0 pair 4 5"
@@ -404,7 +406,8 @@ script_of_signals_0 : wrong (codes "recheck on\n") (
     ∷ codes "0 kill 7 STOP -> 0 ok 0"
     ∷ codes "0 wait 7 nu -> 0 child 7 stop 17"
     ∷ codes "0 kill 7 STOP -> 0 ok 0"
-    ∷ codes "0 ps -> 0 text 1:0:1:1:0:run:init/2:1:1:1:0:run:init/3:1:1:1:0:run:init/4:1:1:1:0:run:init/5:3:1:1:0:run:init/6:5:1:1:0:run:init/7:1:1:1:0:stop:init"
+    ∷ (codes "0 ps -> 0 text 1:0:1:1:0:run:init/2:1:1:1:0:run:init/3:1:1:1:0:run:init/4:1:1:1:0:run:init/"
+    ++ codes "5:3:1:1:0:run:init/6:5:1:1:0:run:init/7:1:1:1:0:stop:init")
     ∷ codes "0 wait 7 n -> 0 ok 0"
     ∷ codes "0 exit 1 -> 0 err EBUSY init"
     ∷ codes "0 fork -> 0 ok 8"
@@ -654,9 +657,13 @@ script_of_signals_2 : wrong (codes "recheck on\n") (
     ∷ codes "13 setpgid 0 12 -> 13 ok 0"
     ∷ codes "13 sigset TSTP ignore -> 13 ok 0"
     ∷ codes "6 kill 15 TTOU -> 6 ok 0"
-    ∷ codes "6 ps -> 6 text 1:0:1:1:0:run:init/2:1:1:1:0:sleep:init/3:1:1:1:0:run:init/4:2:1:1:1001:run:init/5:3:1:1:0:zombie:init/6:3:1:1:0:run:init/7:3:7:7:0:run:init/9:1:1:1:0:run:init/10:9:1:1:0:run:init/11:7:7:7:0:run:init/12:11:12:7:0:run:init/13:12:13:7:0:run:init/14:12:12:7:0:run:init/15:12:12:7:0:stop:init"
+    ∷ (codes "6 ps -> 6 text 1:0:1:1:0:run:init/2:1:1:1:0:sleep:init/3:1:1:1:0:run:init/4:2:1:1:1001:run:init/"
+    ++ codes "5:3:1:1:0:zombie:init/6:3:1:1:0:run:init/7:3:7:7:0:run:init/9:1:1:1:0:run:init/10:9:1:1:0:run:init/"
+    ++ codes "11:7:7:7:0:run:init/12:11:12:7:0:run:init/13:12:13:7:0:run:init/14:12:12:7:0:run:init/" ++ codes "15:12:12:7:0:stop:init")
     ∷ codes "9 exit 4 -> 9 ok 0"
-    ∷ codes "6 ps -> 6 text 1:0:1:1:0:run:init/2:1:1:1:0:sleep:init/3:1:1:1:0:run:init/4:2:1:1:1001:run:init/5:3:1:1:0:zombie:init/6:3:1:1:0:run:init/7:3:7:7:0:run:init/9:1:1:1:0:run:init/10:9:1:1:0:run:init/11:7:7:7:0:zombie:init/12:1:12:7:0:zombie:init/13:1:13:7:0:run:init/14:1:12:7:0:zombie:init/15:1:12:7:0:zombie:init"
+    ∷ (codes "6 ps -> 6 text 1:0:1:1:0:run:init/2:1:1:1:0:sleep:init/3:1:1:1:0:run:init/4:2:1:1:1001:run:init/"
+    ++ codes "5:3:1:1:0:zombie:init/6:3:1:1:0:run:init/7:3:7:7:0:run:init/9:1:1:1:0:run:init/10:9:1:1:0:run:init/"
+    ++ codes "11:7:7:7:0:zombie:init/12:1:12:7:0:zombie:init/13:1:13:7:0:run:init/14:1:12:7:0:zombie:init/" ++ codes "15:1:12:7:0:zombie:init")
     ∷ codes "11 sigtake -> 11 ok 0"
     ∷ codes "6 wait 0 nu -> 6 child 11 exit 4"
     ∷ codes "6 wait 0 nu -> 6 err ECHILD no-child"
@@ -846,7 +853,7 @@ script_of_terminal_1 : wrong [] (
     ∷ codes "9 exit 4 -> 9 ok 0"
     ∷ codes "2 wait 0 nu -> 2 child 10 exit 4"
     ∷ codes "0 open /dev/tty7 rw ne -> 0 ok 0"
-    ∷ codes "2 write 15 0a0a0a0a0a0a0a0a0a0a0a0a0a0a0a0a0a0a0a0a0a0a0a0a0a0a0a0a0a0a0a0a0a0a0a0a0a0a0a0a0a0a0a0a0a0a0a0a0a0a0a0a0a0a0a0a0a0a0a0a0a0a0a0a0a0a0a0a0a0a0a0a0a0a0a0a0a0a0a0a0a0a0a0a0a0a0a0a0a0a0a0a0a0a0a0a0a0a0a0a0a0a0a0a0a0a0a0a0a0a0a0a0a0a0a0a0a0a0a0a0a0a0a0a0a0a0a0a0a0a0a0a0a0a0a0a0a0a0a0a0a0a0a0a0a0a0a0a0a0a0a0a0a0a0a0a0a0a0a0a0a0a0a0a0a0a0a0a0a0a0a0a0a0a0a0a0a0a0a0a0a0a0a0a0a0a0a0a0a0a0a0a0a0a0a -> 2 err EBADF bad-fd"
+    ∷ (codes "2 write 15 " ++ times 195 (codes "0a") ++ codes " -> 2 err EBADF bad-fd")
     ∷ codes "10 fdname 0 -> 10 err EIO dead"
     ∷ codes "2 begin -> 2 err EINVAL begun"
     ∷ codes "0 setctty 0 -> 0 ok 0"
@@ -1032,10 +1039,13 @@ script_of_whole_0 : wrong [] (
     ∷ codes "8 fork -> 8 ok 10"
     ∷ codes "9 setpgid 0 10 -> 9 ok 0"
     ∷ codes "9 wait 0 -> 9 err ECHILD no-child"
-    ∷ codes "2 ps -> 2 text 1:0:1:1:0:sleep:init/2:1:1:1:0:run:init/3:1:1:1:0:run:init/4:3:1:1:0:run:init/5:4:1:1:0:run:init/6:2:1:1:0:run:init/7:6:1:1:0:sleep:init/8:3:8:8:0:run:init/9:8:9:8:0:run:init/10:9:10:8:0:run:init"
+    ∷ (codes "2 ps -> 2 text 1:0:1:1:0:sleep:init/2:1:1:1:0:run:init/3:1:1:1:0:run:init/4:3:1:1:0:run:init/"
+    ++ codes "5:4:1:1:0:run:init/6:2:1:1:0:run:init/7:6:1:1:0:sleep:init/8:3:8:8:0:run:init/9:8:9:8:0:run:init/" ++ codes "10:9:10:8:0:run:init")
     ∷ codes "2 kill 9 TERM -> 2 ok 0"
     ∷ codes "2 kill g8 TERM -> 2 ok 0 wake 0"
-    ∷ codes "2 ps -> 2 text 1:0:1:1:0:sleep:init/2:1:1:1:0:run:init/3:1:1:1:0:run:init/4:3:1:1:0:run:init/5:4:1:1:0:run:init/6:2:1:1:0:run:init/7:6:1:1:0:sleep:init/8:3:8:8:0:zombie:init/9:1:9:8:0:zombie:init/10:1:10:8:0:run:init wake 0"
+    ∷ (codes "2 ps -> 2 text 1:0:1:1:0:sleep:init/2:1:1:1:0:run:init/3:1:1:1:0:run:init/4:3:1:1:0:run:init/"
+    ++ codes "5:4:1:1:0:run:init/6:2:1:1:0:run:init/7:6:1:1:0:sleep:init/8:3:8:8:0:zombie:init/"
+    ++ codes "9:1:9:8:0:zombie:init/10:1:10:8:0:run:init wake 0")
     ∷ codes "2 wait 0 nu -> 2 child 8 signal 15 wake 0"
     ∷ codes "0 again -> 0 child 9 signal 15"
     ∷ codes "up tty6 -> tty6 noted"
@@ -1225,7 +1235,8 @@ script_of_whole_2 : wrong (codes "recheck on\n") (
     ∷ codes "1 kill 9 STOP -> 1 ok 0"
     ∷ codes "1 wait 9 n -> 1 ok 0"
     ∷ codes "1 sigtake -> 1 ok 0"
-    ∷ codes "1 ps -> 1 text 1:0:1:1:0:run:ls/2:1:1:1:0:run:getfmac/3:1:1:1:0:run:init/4:1:4:4:1001:run:sh/6:1:5:5:0:zombie:getfmac/7:1:5:5:0:zombie:getfmac/8:1:5:5:0:zombie:getfmac/9:2:1:1:0:stop:getfmac"
+    ∷ (codes "1 ps -> 1 text 1:0:1:1:0:run:ls/2:1:1:1:0:run:getfmac/3:1:1:1:0:run:init/4:1:4:4:1001:run:sh/"
+    ++ codes "6:1:5:5:0:zombie:getfmac/7:1:5:5:0:zombie:getfmac/8:1:5:5:0:zombie:getfmac/9:2:1:1:0:stop:getfmac")
     ∷ codes "1 wait 9 n -> 1 ok 0"
     ∷ codes "3 tcsetattr 20 now icrnl,ixon,opost,onlcr,hupcl,isig,echo,echoe,echok,echoctl,noflsh:3+28+127+21+4+255+17+19+26+1+0 -> 3 err EBADF bad-fd"
     ∷ codes "0 open /tmp/l2 rw c 666 -> 0 ok 4"
@@ -1259,7 +1270,9 @@ script_of_whole_2 : wrong (codes "recheck on\n") (
     ∷ codes "1 chown /dev/tty2 0 0 -> 1 ok 0 wake 10"
     ∷ codes "in tty7 766364 -> tty7 noted wake 10;tty7 noted wake 10;tty7 noted wake 10"
     ∷ codes "1 chmod /bin/kill 700 -> 1 ok 0 wake 10"
-    ∷ codes "1 ps -> 1 text 1:0:1:1:0:run:ls/2:1:1:1:0:run:getfmac/3:1:1:1:0:run:init/4:1:4:4:1001:run:sh/6:1:5:5:0:zombie:getfmac/7:1:5:5:0:zombie:getfmac/8:1:5:5:0:zombie:getfmac/9:2:1:1:0:stop:getfmac/10:1:1:1:1002:run:ls/11:2:11:11:1001:zombie:getfmac wake 10"
+    ∷ (codes "1 ps -> 1 text 1:0:1:1:0:run:ls/2:1:1:1:0:run:getfmac/3:1:1:1:0:run:init/4:1:4:4:1001:run:sh/"
+    ++ codes "6:1:5:5:0:zombie:getfmac/7:1:5:5:0:zombie:getfmac/8:1:5:5:0:zombie:getfmac/9:2:1:1:0:stop:getfmac/"
+    ++ codes "10:1:1:1:1002:run:ls/11:2:11:11:1001:zombie:getfmac wake 10")
     ∷ []) ≡ []
 unfolding scenes_compute
 script_of_whole_2 = refl

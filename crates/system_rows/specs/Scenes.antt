@@ -1,5 +1,6 @@
 -- Scenes: lines of a script, each with its answer behind an arrow. Where a line has more than one event, a semicolon parts their answers.
-use Rattle.std.specs.Prelude.{ℕ, ◌+◌, ◌==◌, List, [], ◌∷◌, ◌++◌, length, take, drop, flat_map, Option, Some, None, Result, Ok, Err, if◌then◌else◌, codes}
+use Rattle.std.specs.Prelude.{ℕ, zero, suc, ◌+◌, ◌==◌, List, [], ◌∷◌, ◌++◌}
+use Rattle.std.specs.Prelude.{length, take, drop, flat_map, Option, Some, None, Result, Ok, Err, if◌then◌else◌, codes}
 use Rattle.std.specs.List.{slice_split}
 use Rattle.std.specs.Str.{byte, bytes_eq}
 use Rattle.call_words.specs.declared.event.Event.{Event}
@@ -15,6 +16,11 @@ use Rattle.system_model.specs.Step.{step, wakes}
 pub record Row : Type 0 where
   pub line : List ℕ
   pub answers : List ℕ
+
+-- a text so many times
+abbrev pub times : ℕ → List ℕ → List ℕ
+times zero text = []
+times (suc n) text = text ++ times n text
 
 abbrev pub arrow : List ℕ
 arrow = codes " -> "
